@@ -1,0 +1,2 @@
+//! The world as traits: sources, sinks, disks and gates, each with a count of its faults.
+#![tactic(auto)]
