@@ -1,0 +1,4 @@
+pub mod Names
+pub mod Terms
+pub mod Truth
+pub mod Conditions
