@@ -1,1 +1,7 @@
 pub mod Spelling
+pub mod Lines
+pub mod Tokens
+pub mod Pieces
+pub mod Grammar
+pub mod Faults
+pub mod Queries

@@ -1,0 +1,122 @@
+-- The faults of a query's text: for each kind at which tokens it stands, and which one is answered.
+use Rattle.std.specs.Prelude.{◌≡◌, ◌≢◌, ℕ, ◌+◌, ◌^◌, ◌<◌, ◌≤◌, Bool, true, false, ◌⊎◌, List, [], ◌∷◌, ◌++◌, length, map, flat_map, count_by, Contains, IsTrue, IsFalse, MatchBool, ℤ, ◌<ℤ◌}
+use Rattle.lin_model.specs.declared.atom.Cmp.{Cmp}
+use Rattle.lin_text.specs.declared.fault.TextKind.{TextKind}
+use Rattle.lin_text.specs.declared.fault.TextKind.TheVariants.{Token, Syntax, NumberTooLarge, UnknownName, NameTwice, EmptyRange, TooManyVars, TooManyAtoms, TooManyTerms, NoMemory}
+use Rattle.lin_text.specs.Pieces.{Piece, var, word, name, number, plus, minus, times, compare, bad, line_end, PlainToken, PlainLine, pieces}
+use Rattle.lin_text.specs.Grammar.{Integer, Side, integer_pieces, integer_value, side_pieces, item_count, joint, BeginsLine}
+
+-- a line that begins with the word `var`
+abbrev pub begins_variable : List Piece → Bool
+begins_variable (var ∷ ps) = true
+begins_variable _ = false
+
+-- a token, and no reserved word
+abbrev pub begins_atom : Piece → Bool
+begins_atom var = false
+begins_atom (word w) = false
+begins_atom bad = false
+begins_atom line_end = false
+begins_atom _ = true
+
+-- a line that begins with a token other than a reserved word
+abbrev pub begins_comparison : List Piece → Bool
+begins_comparison [] = false
+begins_comparison (p ∷ ps) = begins_atom p
+
+abbrev pub begins_item : Piece → Bool
+begins_item minus = true
+begins_item (number n) = true
+begins_item (name x) = true
+begins_item _ = false
+
+abbrev pub begins_times : List Piece → Bool
+begins_times (times ∷ ps) = true
+begins_times _ = false
+
+-- the name that a line declares
+abbrev pub declared_name : List Piece → List (List ℕ)
+declared_name (var ∷ name x ∷ ps) = x ∷ []
+declared_name _ = []
+
+-- the names that the lines declare, in order
+abbrev pub declared_names : List PlainLine → List (List ℕ)
+declared_names = flat_map (λ line. declared_name (pieces line.tokens))
+
+abbrev pub variable_count : List PlainLine → ℕ
+variable_count = count_by (λ line. begins_variable (pieces line.tokens))
+
+abbrev pub atom_count : List PlainLine → ℕ
+atom_count = count_by (λ line. begins_comparison (pieces line.tokens))
+
+-- a side begins behind these tokens: they are none, or a side and a comparison
+abbrev pub EndsBeforeSide : List Piece → Type 0
+EndsBeforeSide front = (front ≡ []) ⊎ ((left : Side) × (cmp : Cmp) × (front ≡ side_pieces left ++ compare cmp ∷ []))
+
+-- the tokens end with a side of 64 items and the sign of one more
+pub record EndsInFullSide (front : List Piece) : Type 0 where
+  pub before : List Piece
+  pub side : Side
+  pub subtracted : Bool
+  pub starts : EndsBeforeSide before
+  pub full : item_count side ≡ 64
+  pub written : front ≡ before ++ side_pieces side ++ joint subtracted ∷ []
+
+-- a bound above 2^31, a constant above 2^40, or a number above 2^31 that a `*` follows
+abbrev pub IsTooLarge : List Piece → ℕ → List Piece → Type 0
+IsTooLarge front n after =
+    MatchBool (begins_variable front) (2 ^ 31 < n) (2 ^ 40 < n) ⊎ ((2 ^ 31 < n) × IsTrue (begins_times after))
+
+-- two integers, neither too large, the lower one above the upper one
+pub record IsEmptyRange (ps : List Piece) : Type 0 where
+  pub lo : Integer
+  pub hi : Integer
+  pub more : List Piece
+  pub written : ps ≡ integer_pieces lo ++ integer_pieces hi ++ more
+  pub lo_fits : lo.size ≤ 2 ^ 31
+  pub hi_fits : hi.size ≤ 2 ^ 31
+  pub empty : integer_value hi <ℤ integer_value lo
+
+-- A fault of the kind stands at the token `p` of a line, which comes behind the tokens `front` of the line and before the tokens `after`. These are the lines of the query above it.
+abbrev pub Stands : List PlainLine → List Piece → Piece → List Piece → TextKind → Type 0
+Stands above front p after TooManyVars = (front ≡ []) × (p ≡ var) × (variable_count above ≡ 64)
+Stands above front p after TooManyAtoms = (front ≡ []) × IsTrue (begins_atom p) × (atom_count above ≡ 256)
+Stands above front p after TooManyTerms = EndsInFullSide front × IsTrue (begins_item p)
+Stands above front p after Token = p ≡ bad
+Stands above front p after Syntax = ¬ BeginsLine (front ++ p ∷ [])
+Stands above front p after NumberTooLarge = (n : ℕ) × (p ≡ number n) × IsTooLarge front n after
+Stands above front p after UnknownName = (x : List ℕ) × (p ≡ name x) × IsFalse (begins_variable front) × ¬ Contains (declared_names above) x
+Stands above front p after NameTwice = (x : List ℕ) × (p ≡ name x) × (front ≡ var ∷ []) × Contains (declared_names above) x
+Stands above front p after EmptyRange = (x : List ℕ) × (front ≡ var ∷ name x ∷ []) × IsEmptyRange (p ∷ after)
+Stands above front p after NoMemory = ⊥
+
+-- a fault of the kind stands at this place of the lines of a query
+pub record StandsAt (lines : List PlainLine) (kind : TextKind) (at : ℕ) : Type 0 where
+  pub above : List PlainLine
+  pub line : PlainLine
+  pub below : List PlainLine
+  pub front : List PlainToken
+  pub token : PlainToken
+  pub after : List PlainToken
+  pub in_lines : lines ≡ above ++ line ∷ below
+  pub in_line : line.tokens ≡ front ++ token ∷ after
+  pub place : at ≡ token.from
+  pub stands : Stands above (pieces front) token.piece (pieces after) kind
+
+-- the order of the kinds at one place
+abbrev pub rank : TextKind → ℕ
+rank TooManyVars = 0
+rank TooManyAtoms = 1
+rank TooManyTerms = 2
+rank Token = 3
+rank Syntax = 4
+rank NumberTooLarge = 5
+rank UnknownName = 6
+rank NameTwice = 7
+rank EmptyRange = 8
+rank NoMemory = 9
+
+-- the fault that is answered: none stands at a place before it, and none that goes before it at its place
+pub record IsFirstFault (lines : List PlainLine) (kind : TextKind) (at : ℕ) : Type 0 where
+  pub stands : StandsAt lines kind at
+  pub least : (k : TextKind) (p : ℕ) → StandsAt lines k p → (at < p) ⊎ ((at ≡ p) × (rank kind ≤ rank k))

@@ -1,0 +1,129 @@
+-- The lines of a query as trees, the tokens with which a tree is written, and what it means.
+use Rattle.std.specs.Prelude.{◌≡◌, ℕ, ◌+◌, Bool, true, false, List, [], ◌∷◌, ◌++◌, length, map, flat_map, slice_get, ℤ, pos, neg_ℤ, ◌*ℤ◌, Option, Some, None, if◌then◌else◌}
+use Rattle.lin_model.specs.Terms.{PlainVar, PlainTerm, TermFits, VarFits, ExprFits}
+use Rattle.lin_model.specs.declared.atom.Atom.{Atom}
+use Rattle.lin_model.specs.declared.atom.Cmp.{Cmp}
+use Rattle.lin_text.specs.Pieces.{Piece, var, word, name, number, plus, minus, times, compare, bad, line_end}
+
+-- an integer: `-` number, or number
+pub record Integer : Type 0 where
+  pub negative : Bool
+  pub size : ℕ
+
+-- number, number `*` name, or name
+pub data Quantity : Type 0 where
+  constant : ℕ → Quantity
+  multiple : ℕ → List ℕ → Quantity
+  single : List ℕ → Quantity
+
+-- an item: a minus of its own or none, and then a quantity
+pub record Item : Type 0 where
+  pub negative : Bool
+  pub quantity : Quantity
+
+-- `+` or `-`, and then an item
+pub record Joined : Type 0 where
+  pub subtracted : Bool
+  pub item : Item
+
+-- a side: an item, and then any number of joined ones
+pub record Side : Type 0 where
+  pub first : Item
+  pub later : List Joined
+
+-- a line of a query: a name and two integers, or two sides and how they compare
+pub data Line : Type 0 where
+  declaration : List ℕ → Integer → Integer → Line
+  comparison : Side → Cmp → Side → Line
+
+abbrev pub sign : Bool → List Piece
+sign negative = if negative then minus ∷ [] else []
+
+abbrev pub integer_pieces : Integer → List Piece
+integer_pieces i = sign i.negative ++ number i.size ∷ []
+
+abbrev pub quantity_pieces : Quantity → List Piece
+quantity_pieces (constant n) = number n ∷ []
+quantity_pieces (multiple n x) = number n ∷ times ∷ name x ∷ []
+quantity_pieces (single x) = name x ∷ []
+
+abbrev pub item_pieces : Item → List Piece
+item_pieces i = sign i.negative ++ quantity_pieces i.quantity
+
+abbrev pub joint : Bool → Piece
+joint subtracted = if subtracted then minus else plus
+
+abbrev pub joined_pieces : Joined → List Piece
+joined_pieces j = joint j.subtracted ∷ item_pieces j.item
+
+unfoldable pub side_pieces : Side → List Piece
+side_pieces s = item_pieces s.first ++ flat_map joined_pieces s.later
+
+-- how many items a side has
+abbrev pub item_count : Side → ℕ
+item_count s = 1 + length s.later
+
+-- the tokens of a line, its end among them
+abbrev pub line_pieces : Line → List Piece
+line_pieces (declaration x lo hi) = var ∷ name x ∷ integer_pieces lo ++ integer_pieces hi ++ line_end ∷ []
+line_pieces (comparison left cmp right) = side_pieces left ++ compare cmp ∷ side_pieces right ++ line_end ∷ []
+
+-- these tokens begin some line
+pub record BeginsLine (ps : List Piece) : Type 0 where
+  pub line : Line
+  pub more : List Piece
+  pub written : line_pieces line ≡ ps ++ more
+
+abbrev pub signed : Bool → ℕ → ℤ
+signed negative n = if negative then neg_ℤ (pos n) else pos n
+
+abbrev pub integer_value : Integer → ℤ
+integer_value i = signed i.negative i.size
+
+-- the number, 1 for a bare name
+abbrev pub quantity_size : Quantity → ℕ
+quantity_size (constant n) = n
+quantity_size (multiple n x) = n
+quantity_size (single x) = 1
+
+-- the number, negated once for a minus of its own and once for the minus before it
+abbrev pub factor_of : Bool → Item → ℤ
+factor_of subtracted i = signed subtracted 1 *ℤ signed i.negative (quantity_size i.quantity)
+
+-- the quantity is on the variable of this number, or on none; these are the names in order of declaration
+abbrev pub IsOn : List (List ℕ) → Quantity → Option ℕ → Type 0
+IsOn names (constant n) v = v ≡ None
+IsOn names (multiple n x) v = (k : ℕ) × (v ≡ Some k) × (slice_get names k ≡ Some x)
+IsOn names (single x) v = (k : ℕ) × (v ≡ Some k) × (slice_get names k ≡ Some x)
+
+-- the item is this term, within the limits
+pub record IsTerm (names : List (List ℕ)) (subtracted : Bool) (i : Item) (term : PlainTerm) : Type 0 where
+  pub factor : term.factor ≡ factor_of subtracted i
+  pub on : IsOn names i.quantity term.var
+  pub fits : TermFits term
+
+abbrev pub AreTerms : List (List ℕ) → List Joined → List PlainTerm → Type 0
+AreTerms names [] terms = terms ≡ []
+AreTerms names (j ∷ js) [] = ⊥
+AreTerms names (j ∷ js) (term ∷ terms) = IsTerm names j.subtracted j.item term × AreTerms names js terms
+
+-- the side is these terms, one for each item in order, and no more than a side may have
+abbrev pub IsExpr : List (List ℕ) → Side → List PlainTerm → Type 0
+IsExpr names s terms = AreTerms names (record { subtracted = false; item = s.first } ∷ s.later) terms × ExprFits terms
+
+-- the tokens of a line declare this variable
+pub record Declares (ps : List Piece) (v : PlainVar) : Type 0 where
+  pub lo : Integer
+  pub hi : Integer
+  pub written : ps ≡ line_pieces (declaration v.name lo hi)
+  pub low : v.lo ≡ integer_value lo
+  pub high : v.hi ≡ integer_value hi
+  pub fits : VarFits v
+
+-- the tokens of a line compare as this atom does
+pub record Compares (names : List (List ℕ)) (ps : List Piece) (atom : Atom) : Type 0 where
+  pub left : Side
+  pub right : Side
+  pub written : ps ≡ line_pieces (comparison left atom.cmp right)
+  pub left_terms : IsExpr names left atom.left
+  pub right_terms : IsExpr names right atom.right

@@ -1,0 +1,91 @@
+-- What a token means for the grammar, and the tokens of a line and of a text.
+use Rattle.std.specs.Prelude.{◌≡◌, ℕ, ◌<◌, Bool, true, false, ◌||◌, ◌&&◌, ◌==◌, List, [], ◌∷◌, length, map, slice_range, bytes_eq, codes, MatchBool, if◌then◌else◌}
+use Rattle.std.specs.Str.Parse.{digits_value}
+use Rattle.lin_model.specs.Names.{is_reserved}
+use Rattle.lin_model.specs.declared.atom.Cmp.{Cmp}
+use Rattle.lin_model.specs.declared.atom.Cmp.TheVariants.{Le, Lt, Ge, Gt, Eq, Ne}
+use Rattle.lin_text.specs.declared.token.Token.{Token}
+use Rattle.lin_text.specs.declared.token.TokenKind.{TokenKind}
+use Rattle.lin_text.specs.declared.token.TokenKind.TheVariants.{Name, Number, Symbol, Bad, LineEnd}
+use Rattle.lin_text.specs.Lines.{line_from, line_below}
+use Rattle.lin_text.specs.Tokens.{token_from}
+
+-- a token as the grammar sees it; a line ends with `bad` or with `line_end`
+pub data Piece : Type 0 where
+  var : Piece
+  word : List ℕ → Piece
+  name : List ℕ → Piece
+  number : ℕ → Piece
+  plus : Piece
+  minus : Piece
+  times : Piece
+  compare : Cmp → Piece
+  bad : Piece
+  line_end : Piece
+
+-- the words that are no names in a proof text besides
+abbrev pub is_claim_word : List ℕ → Bool
+is_claim_word text = bytes_eq text (codes "answer") || bytes_eq text (codes "core") || bytes_eq text (codes "node")
+
+-- the words that are no names
+abbrev pub is_word : Bool → List ℕ → Bool
+is_word in_proof text = is_reserved text || (in_proof && is_claim_word text)
+
+unfoldable pub name_piece : Bool → List ℕ → Piece
+name_piece in_proof text = if bytes_eq text (codes "var") then var else (if is_word in_proof text then word text else name text)
+
+unfoldable pub symbol_piece : List ℕ → Piece
+symbol_piece text =
+    if bytes_eq text (codes "+") then plus else
+    (if bytes_eq text (codes "-") then minus else
+    (if bytes_eq text (codes "*") then times else
+    (if bytes_eq text (codes "<=") then compare Le else
+    (if bytes_eq text (codes "<") then compare Lt else
+    (if bytes_eq text (codes ">=") then compare Ge else
+    (if bytes_eq text (codes ">") then compare Gt else
+    (if bytes_eq text (codes "!=") then compare Ne else compare Eq)))))))
+
+unfoldable pub piece_of : Bool → TokenKind → List ℕ → Piece
+piece_of in_proof Name text = name_piece in_proof text
+piece_of in_proof Number text = number (digits_value 10 text)
+piece_of in_proof Symbol text = symbol_piece text
+piece_of in_proof Bad text = bad
+piece_of in_proof LineEnd text = line_end
+
+-- a token of a text: from which place to which, and what it is
+pub record PlainToken : Type 0 where
+  pub from : ℕ
+  pub to : ℕ
+  pub piece : Piece
+
+unfoldable pub plain_token : Bool → List ℕ → Token → PlainToken
+plain_token in_proof bytes t = record { from = t.from; to = t.to; piece = piece_of in_proof t.kind (slice_range bytes t.from t.to) }
+
+-- the first token from a place on
+abbrev pub first_token : Bool → List ℕ → ℕ → PlainToken
+first_token in_proof bytes at = plain_token in_proof bytes (token_from bytes at)
+
+-- nothing on the line comes behind it
+abbrev pub is_last : Piece → Bool
+is_last bad = true
+is_last line_end = true
+is_last _ = false
+
+-- the tokens from a place on to the end of its line, which comes last, or to what is no token
+abbrev pub AreTokens : Bool → List ℕ → ℕ → List PlainToken → Type 0
+AreTokens in_proof bytes at [] = ⊥
+AreTokens in_proof bytes at (t ∷ ts) = (t ≡ first_token in_proof bytes at) × MatchBool (is_last t.piece) (ts ≡ []) (AreTokens in_proof bytes t.to ts)
+
+-- a line that isn't skipped: where it starts, and its tokens
+pub record PlainLine : Type 0 where
+  pub start : ℕ
+  pub tokens : List PlainToken
+
+abbrev pub pieces : List PlainToken → List Piece
+pieces = map (λ t. t.piece)
+
+-- the lines that aren't skipped, from a place at which a line begins to the end of the input
+abbrev pub AreLines : Bool → List ℕ → ℕ → List PlainLine → Type 0
+AreLines in_proof bytes at [] = line_from bytes at ≡ length bytes
+AreLines in_proof bytes at (line ∷ lines) =
+    (line.start ≡ line_from bytes at) × (line.start < length bytes) × AreTokens in_proof bytes line.start line.tokens × AreLines in_proof bytes (line_below bytes line.start) lines
