@@ -1,5 +1,6 @@
 pub mod Spelling
 pub mod Lines
+pub mod Runs
 pub mod Tokens
 pub mod Pieces
 pub mod Grammar

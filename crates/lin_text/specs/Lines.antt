@@ -1,5 +1,5 @@
 -- Bytes, lines and positions.
-use Rattle.std.specs.Prelude.{◌≡◌, ℕ, ◌+◌, ◌-◌, min, ◌⊎◌, Some, slice_get, Bool, true, false, not, ◌||◌, ◌&&◌, ◌==◌, List, [], ◌∷◌, length, take, drop, count_by, if◌then◌else◌}
+use Rattle.std.specs.Prelude.{◌≡◌, ℕ, ◌+◌, ◌-◌, ◌≤◌, min, ◌⊎◌, slice_index, Bool, true, false, not, ◌||◌, ◌&&◌, ◌==◌, List, [], ◌∷◌, length, take, drop, count_by, if◌then◌else◌}
 use Rattle.std.specs.List.{prefix_len, suffix_len}
 
 -- a line feed, which ends a line
@@ -48,5 +48,6 @@ abbrev pub line_below : List ℕ → ℕ → ℕ
 line_below bytes at = min (line_end bytes at + 1) (length bytes)
 
 -- a line begins here, or the input ends
-abbrev pub StartsLine : List ℕ → ℕ → Type 0
-StartsLine bytes at = (at ≡ 0) ⊎ (at ≡ length bytes) ⊎ (slice_get bytes (at - 1) ≡ Some 10)
+pub record StartsLine (bytes : List ℕ) (at : ℕ) : Type 0 where
+  pub within : at ≤ length bytes
+  pub begins : (at ≡ 0) ⊎ (at ≡ length bytes) ⊎ (slice_index bytes (at - 1) ≡ 10)

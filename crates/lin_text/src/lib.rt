@@ -2,7 +2,10 @@
 #![tactic(auto)]
 
 mod fault;
+mod lines;
+mod run;
 mod token;
 
 pub use fault::{SessionFault, SessionKind, TextFault, TextKind};
-pub use token::{Token, TokenKind};
+pub use lines::next_line;
+pub use token::{Token, TokenKind, next_token};

@@ -1,0 +1,70 @@
+//! Lines: where they begin and end, which of them are skipped, and where a place lies.
+ghost use Rattle.std.specs.Prelude.{◌≡◌, ◌≤◌, ◌<◌, ◌^◌, length};
+ghost use Rattle.lin_text.specs.Lines.{is_skipped, line_from, line_end, line_below, StartsLine, line_number, column};
+
+use crate::run::{Run, bytes_from, is_feed, run_length};
+
+/// Whether the line that begins here has blanks alone, or is a comment.
+#[tactic(auto, using(crate::proofs::LineLemmas::firsts), unfolding(crate::specs::Lines::is_skipped))]
+fn is_skipped(bytes: &[u8]) -> bool
+    ensures { result ≡ is_skipped bytes.now }
+{
+    let rest = bytes_from(bytes, run_length(Run::Blanks, bytes));
+    rest.is_empty() || is_feed(rest[0]) || rest[0] == b'#'
+}
+
+/// The start of the line below the one that goes through `at`, or the input's length.
+pub fn line_below(bytes: &[u8], at: usize) -> usize
+    requires { at ≤ length bytes.now }
+    ensures { result ≡ line_below bytes.now at }
+{
+    let end = at + run_length(Run::Line, bytes_from(bytes, at));
+    if end < bytes.len() {
+        end + 1
+    } else {
+        bytes.len()
+    }
+}
+
+/// The start of the first line from `at`, where a line begins, that isn't skipped.
+pub fn first_line(bytes: &[u8], at: usize) -> usize
+    requires { at ≤ length bytes.now }
+    ensures start { result ≡ line_from bytes.now at }
+    ensures within { result ≤ length bytes.now }
+{
+    let mut start = at;
+    while start < bytes.len() && is_skipped(bytes_from(bytes, start)) {
+        start = line_below(bytes, start);
+    }
+    start
+}
+
+/// The start of the first line from `at` that isn't skipped, or the input's length where there is none.
+/// A line with blanks alone and a line whose first byte that isn't blank is `#` are skipped. A line ends
+/// with a line feed or with the input.
+pub fn next_line(bytes: &[u8], at: usize) -> usize
+    requires { StartsLine bytes.now at }
+    ensures { result ≡ line_from bytes.now at }
+{
+    first_line(bytes, at)
+}
+
+/// The number of the line on which the place lies, from 1.
+pub fn line_number(bytes: &[u8], at: usize) -> u64
+    requires { at ≤ length bytes.now }
+    ensures { result ≡ line_number bytes.now at }
+{
+    1 + bytes[..at].iter().filter(|byte| is_feed(**byte)).count() as u64
+}
+
+/// How many bytes stand on the line before the place, and 1.
+pub fn column(bytes: &[u8], at: usize) -> u64
+    requires { at ≤ length bytes.now }
+    ensures { result ≡ column bytes.now at }
+{
+    let mut column = 1;
+    for byte in &bytes[..at] {
+        column = if is_feed(*byte) { 1 } else { column + 1 };
+    }
+    column
+}
