@@ -1,4 +1,5 @@
 //! The two errors that the world gives: want of memory, and a source, a sink or a disk that failed.
+ghost use Rattle.std.specs.Prelude.{Some, codes};
 
 use std::alloc::{AllocError, AllocFailed};
 use std::error::Error;
@@ -9,6 +10,8 @@ use std::fmt;
 pub struct NoMemory;
 
 impl fmt::Display for NoMemory {
+    ghost output = { λ _. Some (codes "out of memory") };
+
     fn fmt<W: fmt::Write>(&self, f: &mut fmt::Formatter<W>) -> fmt::Result {
         write!(f, "out of memory")
     }
@@ -33,6 +36,8 @@ impl<T: Drop> From<AllocFailed<T>> for NoMemory {
 pub struct Failed;
 
 impl fmt::Display for Failed {
+    ghost output = { λ _. Some (codes "input or output failed") };
+
     fn fmt<W: fmt::Write>(&self, f: &mut fmt::Formatter<W>) -> fmt::Result {
         write!(f, "input or output failed")
     }

@@ -1,5 +1,6 @@
 //! A writer of std as a sink.
-ghost use Rattle.std.specs.Prelude.{◌≡◌, ℕ, None};
+ghost use Rattle.std.specs.Prelude.{◌≡◌, ℕ, None, if◌then◌else◌, is_err};
+ghost use Rattle.outside.specs.Counts.{raised, HasCause};
 
 use crate::{Failed, Sink};
 use std::io::{ErrorKind, Write};
@@ -32,8 +33,12 @@ impl<W: Write> Sink for StdSink<W> {
 
     ghost faults = { λ count. count };
 
-    /// Writes until the writer has taken the whole piece, and flushes it. A writer that takes nothing has failed.
-    fn write(&mut self, piece: &[u8]) -> Result<(), Failed> {
+    /// Writes until the writer has taken the whole piece, and flushes it. A writer that takes nothing has failed, and
+    /// a call that a signal interrupted is made again. Only a fault raises the count, by one.
+    fn write(&mut self, piece: &[u8]) -> Result<(), Failed>
+        ensures cause { HasCause self.old self.new result }
+        ensures counted { self.new ≡ (if is_err result then raised self.old else self.old) }
+    {
         let result = write_whole(&mut self.writer, piece);
         if result.is_err() {
             self.faults = self.faults.saturating_add(1);

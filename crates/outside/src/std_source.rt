@@ -1,5 +1,6 @@
 //! A reader of std as a source.
-ghost use Rattle.std.specs.Prelude.{◌≡◌, ◌≤◌, ℕ, None, length, IfOk};
+ghost use Rattle.std.specs.Prelude.{◌≡◌, ◌≤◌, ℕ, None, length, if◌then◌else◌, is_err, IfOk};
+ghost use Rattle.outside.specs.Counts.{raised, HasCause};
 
 use crate::{Failed, Source};
 use std::io::{ErrorKind, Read};
@@ -32,8 +33,13 @@ impl<R: Read> Source for StdSource<R> {
 
     ghost faults = { λ count. count };
 
-    /// One read of the reader. An error is a fault, but for an interruption, after which it reads again.
-    fn read(&mut self, buf: &mut [u8]) -> Result<usize, Failed> {
+    /// One read of the reader. An error is a fault, but for an interruption, after which it reads again. Only a fault
+    /// raises the count, by one.
+    fn read(&mut self, buf: &mut [u8]) -> Result<usize, Failed>
+        ensures bound { IfOk result (λ n. n ≤ length buf.new) }
+        ensures cause { HasCause self.old self.new result }
+        ensures counted { self.new ≡ (if is_err result then raised self.old else self.old) }
+    {
         let result = read_retrying(&mut self.reader, buf);
         if result.is_err() {
             self.faults = self.faults.saturating_add(1);
