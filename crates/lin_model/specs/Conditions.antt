@@ -22,7 +22,7 @@ pub record AtomNamesBelow (n : ℕ) (atom : Atom) : Type 0 where
 abbrev pub Differ : PlainVar → PlainVar → Type 0
 Differ a b = a.name ≢ b.name
 
--- these make a condition: 64 variables of distinct names, 256 atoms, and no variable that isn't there
+-- these make a condition: at most 64 variables of distinct names, at most 256 atoms, and no variable that isn't there
 pub record Fits (vars : List PlainVar) (atoms : List Atom) : Type 0 where
   pub few_vars : length vars ≤ 64
   pub few_atoms : length atoms ≤ 256
