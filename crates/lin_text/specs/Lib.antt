@@ -1,8 +1,10 @@
+pub mod Small
 pub mod Spelling
 pub mod Lines
 pub mod Runs
 pub mod Tokens
 pub mod Pieces
+pub mod Classes
 pub mod Grammar
 pub mod Faults
 pub mod Queries

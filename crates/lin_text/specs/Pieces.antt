@@ -1,6 +1,5 @@
 -- What a token means for the grammar, and the tokens of a line and of a text.
-use Rattle.std.specs.Prelude.{◌≡◌, ℕ, ◌<◌, Bool, true, false, ◌||◌, ◌&&◌, ◌==◌, List, [], ◌∷◌, length, map, slice_range, bytes_eq, codes, MatchBool, if◌then◌else◌}
-use Rattle.std.specs.Str.Parse.{digits_value}
+use Rattle.std.specs.Prelude.{◌≡◌, ℕ, ◌+◌, ◌-◌, ◌*◌, ◌<◌, fold, Bool, true, false, ◌||◌, ◌&&◌, ◌==◌, List, [], ◌∷◌, length, map, slice_range, bytes_eq, codes, MatchBool, if◌then◌else◌}
 use Rattle.lin_model.specs.Names.{is_reserved}
 use Rattle.lin_model.specs.declared.atom.Cmp.{Cmp}
 use Rattle.lin_model.specs.declared.atom.Cmp.TheVariants.{Le, Lt, Ge, Gt, Eq, Ne}
@@ -34,20 +33,28 @@ is_word in_proof text = is_reserved text || (in_proof && is_claim_word text)
 unfoldable pub name_piece : Bool → List ℕ → Piece
 name_piece in_proof text = if bytes_eq text (codes "var") then var else (if is_word in_proof text then word text else name text)
 
+-- how a symbol compares, where it is none of the signs
+abbrev pub comparison_of : List ℕ → Cmp
+comparison_of text =
+    if bytes_eq text (codes "<=") then Le else
+    (if bytes_eq text (codes "<") then Lt else
+    (if bytes_eq text (codes ">=") then Ge else
+    (if bytes_eq text (codes ">") then Gt else
+    (if bytes_eq text (codes "!=") then Ne else Eq))))
+
 unfoldable pub symbol_piece : List ℕ → Piece
 symbol_piece text =
     if bytes_eq text (codes "+") then plus else
     (if bytes_eq text (codes "-") then minus else
-    (if bytes_eq text (codes "*") then times else
-    (if bytes_eq text (codes "<=") then compare Le else
-    (if bytes_eq text (codes "<") then compare Lt else
-    (if bytes_eq text (codes ">=") then compare Ge else
-    (if bytes_eq text (codes ">") then compare Gt else
-    (if bytes_eq text (codes "!=") then compare Ne else compare Eq)))))))
+    (if bytes_eq text (codes "*") then times else compare (comparison_of text)))
+
+-- the number that the digits are
+abbrev pub number_of : List ℕ → ℕ
+number_of = fold (λ n digit. 10 * n + (digit - 48)) 0
 
 unfoldable pub piece_of : Bool → TokenKind → List ℕ → Piece
 piece_of in_proof Name text = name_piece in_proof text
-piece_of in_proof Number text = number (digits_value 10 text)
+piece_of in_proof Number text = number (number_of text)
 piece_of in_proof Symbol text = symbol_piece text
 piece_of in_proof Bad text = bad
 piece_of in_proof LineEnd text = line_end

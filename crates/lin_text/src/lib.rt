@@ -1,11 +1,17 @@
 //! The texts of conditions: how they are spelled, read and written.
 #![tactic(auto)]
 
+mod class;
 mod fault;
 mod lines;
+mod names;
 mod run;
+mod small;
 mod token;
+mod write;
 
 pub use fault::{SessionFault, SessionKind, TextFault, TextKind};
 pub use lines::next_line;
+pub use small::read_small;
 pub use token::{Token, TokenKind, next_token};
+pub use write::write_query;

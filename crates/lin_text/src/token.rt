@@ -91,7 +91,9 @@ fn kind_of(first: u8, len: usize) -> TokenKind
 /// The token of this kind and length at a place. `Bad` and `LineEnd` have no bytes.
 fn token_of(kind: TokenKind, at: usize, len: usize) -> Token
     requires { at + len < 2 ^ 64 }
-    ensures { result ≡ token_of kind at len }
+    ensures token { result ≡ token_of kind at len }
+    ensures order { result.from ≤ result.to }
+    ensures within { result.to ≤ at + len }
 {
     let to = if kind == TokenKind::Bad { at } else { at + len };
     Token { kind, from: at, to }
@@ -101,7 +103,9 @@ fn token_of(kind: TokenKind, at: usize, len: usize) -> Token
 #[tactic(auto, using(crate::proofs::LineLemmas::firsts))]
 fn token_here(at: usize, bytes: &[u8]) -> Token
     requires { at + length bytes.now < 2 ^ 64 }
-    ensures { result ≡ token_here at bytes.now }
+    ensures token { result ≡ token_here at bytes.now }
+    ensures order { result.from ≤ result.to }
+    ensures within { result.to ≤ at + length bytes.now }
 {
     if bytes.is_empty() || is_feed(bytes[0]) {
         return token_of(TokenKind::LineEnd, at, 0);
@@ -116,7 +120,9 @@ fn token_here(at: usize, bytes: &[u8]) -> Token
 #[tactic(auto, unfolding(crate::specs::Tokens::token_from))]
 pub fn next_token(bytes: &[u8], at: usize) -> Token
     requires { at ≤ length bytes.now }
-    ensures { result ≡ token_from bytes.now at }
+    ensures token { result ≡ token_from bytes.now at }
+    ensures order { result.from ≤ result.to }
+    ensures within { result.to ≤ length bytes.now }
 {
     let from = at + run_length(Run::Blanks, bytes_from(bytes, at));
     token_here(from, bytes_from(bytes, from))

@@ -1,0 +1,21 @@
+-- What the reader sees of a token: its class, which leaves out the bytes of a name and of a word, and how large a large number is.
+use Rattle.std.specs.Prelude.{ℕ, ◌+◌, ◌^◌, min, List}
+use Rattle.lin_text.specs.declared.class.Class.{Class}
+use Rattle.lin_text.specs.declared.class.Class.TheVariants.{Var, Word, Name, Number, Plus, Minus, Times, Compare, Bad, LineEnd}
+use Rattle.lin_text.specs.declared.class.Lexeme.{Lexeme}
+use Rattle.lin_text.specs.Pieces.{Piece, var, word, name, number, plus, minus, times, compare, bad, line_end, PlainToken}
+
+abbrev pub class_of : Piece → Class
+class_of var = Var
+class_of (word w) = Word
+class_of (name x) = Name
+class_of (number n) = Number (min n (2 ^ 40 + 1))
+class_of plus = Plus
+class_of minus = Minus
+class_of times = Times
+class_of (compare cmp) = Compare cmp
+class_of bad = Bad
+class_of line_end = LineEnd
+
+abbrev pub shown : PlainToken → Lexeme
+shown t = record { class = class_of t.piece; from = t.from; to = t.to }

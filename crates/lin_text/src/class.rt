@@ -1,0 +1,146 @@
+//! What a token is for the grammar: which word, which sign, which number.
+ghost use Rattle.std.specs.Prelude.{◌≡◌, ◌≤◌, ◌+◌, ◌^◌, min, length, bytes_eq};
+ghost use Rattle.lin_text.specs.Pieces.{number_of, piece_of, comparison_of, name_piece, symbol_piece, is_word, is_claim_word, first_token};
+ghost use Rattle.lin_text.specs.Classes.{class_of, shown};
+
+use crate::token::{TokenKind, next_token};
+use lin_model::{Cmp, MAX_CONSTANT, is_reserved};
+
+/// What a token is for the grammar. A number beyond every limit is 2^40 + 1.
+#[derive(Clone, Copy, Debug, PartialEq, Eq)]
+pub enum Class {
+    /// The word `var`.
+    Var,
+    /// Another reserved word.
+    Word,
+    Name,
+    Number(u64),
+    Plus,
+    Minus,
+    Times,
+    Compare(Cmp),
+    /// What is no token.
+    Bad,
+    LineEnd,
+}
+
+/// A token, from the place of its first byte to the place behind its last.
+#[derive(Clone, Copy, Debug)]
+pub struct Lexeme {
+    pub class: Class,
+    pub from: usize,
+    pub to: usize,
+}
+
+/// The least number that is beyond every limit.
+const TOO_LARGE: u64 = MAX_CONSTANT as u64 + 1;
+
+/// The number that the digits are, or the least that is beyond every limit.
+fn number_of(digits: &[u8]) -> u64
+    ensures { result ≡ min (number_of digits.now) (2 ^ 40 + 1) }
+{
+    let mut number = 0;
+    for digit in digits {
+        number = (10 * number + u64::from(digit.saturating_sub(b'0'))).min(TOO_LARGE);
+    }
+    number
+}
+
+fn is_text(bytes: &[u8], text: &str) -> bool
+    ensures { result ≡ bytes_eq bytes.now text.now }
+{
+    bytes == text.as_bytes()
+}
+
+/// Whether the bytes are one of the words that a proof text reserves besides.
+fn is_claim_word(bytes: &[u8]) -> bool
+    ensures { result ≡ is_claim_word bytes.now }
+{
+    is_text(bytes, "answer") || is_text(bytes, "core") || is_text(bytes, "node")
+}
+
+/// Whether the bytes are no name but a word.
+fn is_word(bytes: &[u8], in_proof: bool) -> bool
+    ensures { result ≡ is_word in_proof bytes.now }
+{
+    is_reserved(bytes) || in_proof && is_claim_word(bytes)
+}
+
+/// What a name or a word is.
+#[tactic(auto, using(crate::proofs::WordLemmas::named))]
+fn class_of_name(text: &[u8], in_proof: bool) -> Class
+    ensures { result ≡ class_of (name_piece in_proof text.now) }
+{
+    if is_text(text, "var") {
+        Class::Var
+    } else if is_word(text, in_proof) {
+        Class::Word
+    } else {
+        Class::Name
+    }
+}
+
+/// How a symbol compares. One that is none of the others is `=` or `==`.
+fn comparison_of(text: &[u8]) -> Cmp
+    ensures { result ≡ comparison_of text.now }
+{
+    if is_text(text, "<=") {
+        Cmp::Le
+    } else if is_text(text, "<") {
+        Cmp::Lt
+    } else if is_text(text, ">=") {
+        Cmp::Ge
+    } else if is_text(text, ">") {
+        Cmp::Gt
+    } else if is_text(text, "!=") {
+        Cmp::Ne
+    } else {
+        Cmp::Eq
+    }
+}
+
+/// What a symbol is.
+#[tactic(auto, unfolding(crate::specs::Pieces::symbol_piece))]
+fn class_of_symbol(text: &[u8]) -> Class
+    ensures { result ≡ class_of (symbol_piece text.now) }
+{
+    if is_text(text, "+") {
+        Class::Plus
+    } else if is_text(text, "-") {
+        Class::Minus
+    } else if is_text(text, "*") {
+        Class::Times
+    } else {
+        Class::Compare(comparison_of(text))
+    }
+}
+
+/// What a token of this kind and text is.
+#[tactic(auto, unfolding(crate::specs::Pieces::piece_of))]
+fn class_of(kind: TokenKind, text: &[u8], in_proof: bool) -> Class
+    ensures { result ≡ class_of (piece_of in_proof kind text.now) }
+{
+    match kind {
+        TokenKind::Name => class_of_name(text, in_proof),
+        TokenKind::Number => Class::Number(number_of(text)),
+        TokenKind::Symbol => class_of_symbol(text),
+        TokenKind::Bad => Class::Bad,
+        TokenKind::LineEnd => Class::LineEnd,
+    }
+}
+
+/// The first token from a place on, within its line.
+#[tactic(auto, unfolding(crate::specs::Pieces::plain_token))]
+pub fn next_lexeme(bytes: &[u8], in_proof: bool, at: usize) -> Lexeme
+    requires { at ≤ length bytes.now }
+    ensures shown { result ≡ shown (first_token in_proof bytes.now at) }
+    ensures order { result.from ≤ result.to }
+    ensures within { result.to ≤ length bytes.now }
+{
+    let token = next_token(bytes, at);
+    Lexeme {
+        class: class_of(token.kind, &bytes[token.from..token.to], in_proof),
+        from: token.from,
+        to: token.to,
+    }
+}
