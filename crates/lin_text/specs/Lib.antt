@@ -8,3 +8,4 @@ pub mod Classes
 pub mod Grammar
 pub mod Faults
 pub mod Queries
+pub mod Reading

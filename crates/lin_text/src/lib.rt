@@ -2,9 +2,11 @@
 #![tactic(auto)]
 
 mod class;
+mod declaration;
 mod fault;
 mod lines;
 mod names;
+mod refusal;
 mod run;
 mod small;
 mod token;

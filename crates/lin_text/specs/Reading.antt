@@ -1,0 +1,182 @@
+-- What the reader answers for a part of a line: a value with the place behind it, or the first fault.
+use Rattle.std.specs.Prelude.{◌≡◌, ℕ, ◌+◌, ◌^◌, zero, suc, nat_lt, Bool, true, false, not, List, [], ◌∷◌, slice_range, bytes_eq, position, is_some, ℤ, pos, neg_ℤ, int_lt, Option, Some, None, Result, Ok, Err, if◌then◌else◌}
+use Rattle.lin_model.specs.Terms.{PlainTerm}
+use Rattle.lin_model.specs.declared.atom.Atom.{Atom}
+use Rattle.lin_model.specs.declared.atom.Cmp.{Cmp}
+use Rattle.lin_text.specs.declared.fault.TextKind.{TextKind}
+use Rattle.lin_text.specs.declared.fault.TextKind.TheVariants.{Token, Syntax, NumberTooLarge, UnknownName, NameTwice, EmptyRange, TooManyTerms}
+use Rattle.lin_text.specs.declared.refusal.Fault.{Fault}
+use Rattle.lin_text.specs.declared.refusal.ReadError.{ReadError}
+use Rattle.lin_text.specs.declared.refusal.ReadError.TheVariants as errors
+use Rattle.lin_text.specs.declared.class.Class.{Class}
+use Rattle.lin_text.specs.declared.class.Class.TheVariants.{Var, Word, Name, Number, Plus, Minus, Times, Compare, Bad, LineEnd}
+use Rattle.lin_text.specs.declared.class.Lexeme.{Lexeme}
+use Rattle.lin_text.specs.Pieces.{first_token}
+use Rattle.lin_text.specs.Classes.{shown}
+use Rattle.lin_text.specs.Grammar.{signed}
+
+infixl 10 ◌>>=◌
+abbrev pub ◌>>=◌ : {A B : Type 0} → Result A Fault → (A → Result B Fault) → Result B Fault
+(Ok x) >>= f = f x
+(Err e) >>= f = Err e
+
+-- what a function that takes memory returned is what reading gives, unless memory ran out
+abbrev pub Gives : {X : Type 0} → Result X ReadError → Result X Fault → Type 0
+Gives (Ok x) read = read ≡ Ok x
+Gives (Err errors.Memory) read = Unit {0}
+Gives (Err (errors.Fault f)) read = read ≡ Err f
+
+abbrev pub lexeme_at : Bool → List ℕ → ℕ → Lexeme
+lexeme_at in_proof bytes at = shown (first_token in_proof bytes at)
+
+abbrev pub fault_at : TextKind → ℕ → Fault
+fault_at kind at = record { kind = kind; at = at }
+
+abbrev pub refusal_kind : Class → TextKind
+refusal_kind Bad = Token
+refusal_kind _ = Syntax
+
+-- the fault of a token that can't come next
+abbrev pub refusal : Lexeme → Fault
+refusal l = fault_at (refusal_kind l.class) l.from
+
+abbrev pub bound_by : Class → Lexeme → Result (ℤ × ℕ) Fault
+bound_by (Number n) l = if nat_lt (2 ^ 31) n then Err (fault_at NumberTooLarge l.from) else Ok (pos n, l.to)
+bound_by _ l = Err (refusal l)
+
+-- the number of a bound
+unfoldable pub bound_of : Lexeme → Result (ℤ × ℕ) Fault
+bound_of l = bound_by l.class l
+
+abbrev pub is_minus : Class → Bool
+is_minus Minus = true
+is_minus _ = false
+
+-- a bound
+unfoldable pub integer_at : Bool → List ℕ → ℕ → Result (ℤ × ℕ) Fault
+integer_at p bytes at =
+    let l = lexeme_at p bytes at in
+    if is_minus l.class then (bound_of (lexeme_at p bytes l.to) >>= λ n. Ok (neg_ℤ n.0, n.1)) else bound_of l
+
+abbrev pub is_name_class : Class → Bool
+is_name_class Name = true
+is_name_class _ = false
+
+abbrev pub number_in : List (List ℕ) → List ℕ → Lexeme → Option ℕ
+number_in names bytes l = position (bytes_eq (slice_range bytes l.from l.to)) names
+
+-- the places of a name that isn't declared so far
+unfoldable pub free_name_at : Bool → List ℕ → List (List ℕ) → ℕ → Result (ℕ × ℕ) Fault
+free_name_at p bytes names at =
+    let l = lexeme_at p bytes at in
+    if is_name_class l.class then (if is_some (number_in names bytes l) then Err (fault_at NameTwice l.from) else Ok (l.from, l.to)) else Err (refusal l)
+
+-- two bounds, the lower one first
+unfoldable pub range_at : Bool → List ℕ → ℕ → Result (ℤ × ℤ × ℕ) Fault
+range_at p bytes at =
+    integer_at p bytes at >>= λ lo.
+    integer_at p bytes lo.1 >>= λ hi.
+    if int_lt hi.0 lo.0 then Err (fault_at EmptyRange (lexeme_at p bytes at).from) else Ok (lo.0, hi.0, hi.1)
+
+abbrev pub is_end_class : Class → Bool
+is_end_class LineEnd = true
+is_end_class _ = false
+
+-- the end of the line
+unfoldable pub end_at : Bool → List ℕ → ℕ → Result (Unit {0}) Fault
+end_at p bytes at = let l = lexeme_at p bytes at in if is_end_class l.class then Ok tt else Err (refusal l)
+
+-- where a declared name stands, and its bounds
+pub record Declared : Type 0 where
+  pub from : ℕ
+  pub to : ℕ
+  pub lo : ℤ
+  pub hi : ℤ
+
+-- a declaration behind the word `var`
+unfoldable pub declaration_at : Bool → List ℕ → List (List ℕ) → ℕ → Result (ℕ × ℕ × ℤ × ℤ) Fault
+declaration_at p bytes names at =
+    free_name_at p bytes names at >>= λ name.
+    range_at p bytes name.1 >>= λ range.
+    end_at p bytes range.2 >>= λ _.
+    Ok (name.0, name.1, range.0, range.1)
+
+abbrev pub variable_by : Option ℕ → Lexeme → ℤ → Result (PlainTerm × ℕ) Fault
+variable_by None l factor = Err (fault_at UnknownName l.from)
+variable_by (Some v) l factor = Ok (record { factor = factor; var = Some v }, l.to)
+
+-- a factor on the variable that a token names
+unfoldable pub variable_of : List ℕ → List (List ℕ) → Lexeme → ℤ → Result (PlainTerm × ℕ) Fault
+variable_of bytes names l factor = if is_name_class l.class then variable_by (number_in names bytes l) l factor else Err (refusal l)
+
+abbrev pub is_times : Class → Bool
+is_times Times = true
+is_times _ = false
+
+-- a number that a `*` follows, or one by itself
+unfoldable pub number_at : Bool → List ℕ → List (List ℕ) → Bool → Lexeme → ℕ → Result (PlainTerm × ℕ) Fault
+number_at p bytes names negative l n =
+    let next = lexeme_at p bytes l.to in
+    if is_times next.class
+    then (if nat_lt (2 ^ 31) n then Err (fault_at NumberTooLarge l.from) else variable_of bytes names (lexeme_at p bytes next.to) (signed negative n))
+    else (if nat_lt (2 ^ 40) n then Err (fault_at NumberTooLarge l.from) else Ok (record { factor = signed negative n; var = None }, l.to))
+
+abbrev pub quantity_by : Class → Bool → List ℕ → List (List ℕ) → Bool → Lexeme → Result (PlainTerm × ℕ) Fault
+quantity_by Name p bytes names negative l = variable_of bytes names l (signed negative 1)
+quantity_by (Number n) p bytes names negative l = number_at p bytes names negative l n
+quantity_by _ p bytes names negative l = Err (refusal l)
+
+-- an item without the minus of its own
+unfoldable pub quantity_at : Bool → List ℕ → List (List ℕ) → Bool → Lexeme → Result (PlainTerm × ℕ) Fault
+quantity_at p bytes names negative l = quantity_by l.class p bytes names negative l
+
+-- an item, behind a minus or not
+unfoldable pub item_at : Bool → List ℕ → List (List ℕ) → Bool → ℕ → Result (PlainTerm × ℕ) Fault
+item_at p bytes names subtracted at =
+    let l = lexeme_at p bytes at in
+    if is_minus l.class then quantity_at p bytes names (not subtracted) (lexeme_at p bytes l.to) else quantity_at p bytes names subtracted l
+
+abbrev pub begins_item_class : Class → Bool
+begins_item_class Minus = true
+begins_item_class (Number n) = true
+begins_item_class Name = true
+begins_item_class _ = false
+
+-- the fault where no more items may come
+unfoldable pub full_at : Lexeme → Fault
+full_at l = if begins_item_class l.class then fault_at TooManyTerms l.from else refusal l
+
+abbrev pub is_joint : Class → Bool
+is_joint Plus = true
+is_joint Minus = true
+is_joint _ = false
+
+-- at most n items, the first behind a minus or not
+unfoldable pub items_at : ℕ → Bool → List ℕ → List (List ℕ) → Bool → ℕ → Result (List PlainTerm × ℕ) Fault
+items_at zero p bytes names subtracted at = Err (full_at (lexeme_at p bytes at))
+items_at (suc n) p bytes names subtracted at =
+    item_at p bytes names subtracted at >>= λ item.
+    let l = lexeme_at p bytes item.1 in
+    if is_joint l.class
+    then (items_at n p bytes names (is_minus l.class) l.to >>= λ later. Ok (item.0 ∷ later.0, later.1))
+    else Ok (item.0 ∷ [], item.1)
+
+-- a side
+unfoldable pub side_at : Bool → List ℕ → List (List ℕ) → ℕ → Result (List PlainTerm × ℕ) Fault
+side_at p bytes names at = items_at 64 p bytes names false at
+
+abbrev pub comparison_by : Class → Lexeme → Result (Cmp × ℕ) Fault
+comparison_by (Compare cmp) l = Ok (cmp, l.to)
+comparison_by _ l = Err (refusal l)
+
+unfoldable pub comparison_at : Bool → List ℕ → ℕ → Result (Cmp × ℕ) Fault
+comparison_at p bytes at = let l = lexeme_at p bytes at in comparison_by l.class l
+
+-- a comparison of two sides, to the end of the line
+unfoldable pub atom_at : Bool → List ℕ → List (List ℕ) → ℕ → Result Atom Fault
+atom_at p bytes names at =
+    side_at p bytes names at >>= λ left.
+    comparison_at p bytes left.1 >>= λ cmp.
+    side_at p bytes names cmp.1 >>= λ right.
+    end_at p bytes right.1 >>= λ _.
+    Ok (record { left = left.0; cmp = cmp.0; right = right.0 })

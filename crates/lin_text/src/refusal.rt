@@ -1,0 +1,80 @@
+//! How the reader refuses: the kind of the fault and its place among the bytes, or want of memory.
+ghost use Rattle.std.specs.Prelude.{◌≡◌};
+ghost use Rattle.lin_text.specs.Reading.{refusal, fault_at};
+
+use crate::class::{Class, Lexeme};
+use crate::fault::TextKind;
+use outside::NoMemory;
+use std::alloc::{AllocError, AllocFailed};
+
+/// A fault, at a place among the bytes.
+#[derive(Clone, Copy, Debug)]
+pub struct Fault {
+    pub kind: TextKind,
+    pub at: usize,
+}
+
+/// Why a part wasn't read.
+#[derive(Clone, Copy, Debug)]
+pub enum ReadError {
+    Memory,
+    Fault(Fault),
+}
+
+impl From<AllocError> for ReadError {
+    ghost use Rattle.lin_text.specs.declared.refusal.ReadError.TheVariants.{Memory};
+
+    ghost from_gives = { λ _ e. e ≡ Memory };
+
+    fn from(_error: AllocError) -> ReadError {
+        ReadError::Memory
+    }
+}
+
+impl<T: Drop> From<AllocFailed<T>> for ReadError {
+    ghost use Rattle.lin_text.specs.declared.refusal.ReadError.TheVariants.{Memory};
+
+    ghost from_gives = { λ _ e. e ≡ Memory };
+
+    fn from(_error: AllocFailed<T>) -> ReadError {
+        ReadError::Memory
+    }
+}
+
+impl From<NoMemory> for ReadError {
+    ghost use Rattle.lin_text.specs.declared.refusal.ReadError.TheVariants.{Memory};
+
+    ghost from_gives = { λ _ e. e ≡ Memory };
+
+    fn from(_error: NoMemory) -> ReadError {
+        ReadError::Memory
+    }
+}
+
+impl From<Fault> for ReadError {
+    ghost use Rattle.lin_text.specs.declared.refusal.ReadError.TheVariants as errors;
+
+    ghost from_gives = { λ f e. e ≡ errors.Fault f };
+
+    fn from(fault: Fault) -> ReadError {
+        ReadError::Fault(fault)
+    }
+}
+
+/// The fault of this kind at a place.
+pub fn fault_at(kind: TextKind, at: usize) -> Fault
+    ensures { result ≡ fault_at kind at }
+{
+    Fault { kind, at }
+}
+
+/// The fault of a token that can't come next: it is no token, or it doesn't fit the grammar.
+pub fn refusal(token: Lexeme) -> Fault
+    ensures { result ≡ refusal token }
+{
+    let kind = match token.class {
+        Class::Bad => TextKind::Token,
+        _ => TextKind::Syntax,
+    };
+    fault_at(kind, token.from)
+}
