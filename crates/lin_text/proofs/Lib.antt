@@ -1,5 +1,6 @@
 pub mod LineLemmas
 pub mod WordLemmas
 pub mod NameLemmas
+pub mod SideLemmas
 mod SmallLemmas
 mod SpaceLemmas

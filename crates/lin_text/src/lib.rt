@@ -8,6 +8,7 @@ mod lines;
 mod names;
 mod refusal;
 mod run;
+mod side;
 mod small;
 mod token;
 mod write;

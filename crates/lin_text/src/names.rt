@@ -1,5 +1,5 @@
 //! The names that a query declares, in order.
-ghost use Rattle.std.specs.Prelude.{◌≡◌, ◌++◌, ◌∷◌, [], None, OnOk, OnErr, position, bytes_eq};
+ghost use Rattle.std.specs.Prelude.{◌≡◌, ◌++◌, ◌∷◌, [], None, OnOk, OnErr, IfSome, ◌<◌, length, position, bytes_eq};
 
 use indexmap::IndexSet;
 use outside::NoMemory;
@@ -31,7 +31,8 @@ impl Names {
 
     /// The number of the name, from 0. `None` where it isn't declared.
     pub fn find(&self, name: &[u8]) -> Option<usize>
-        ensures { result ≡ position (bytes_eq name.now) self.now }
+        ensures place { result ≡ position (bytes_eq name.now) self.now }
+        ensures within { IfSome result (λ k. k < length self.now) }
     {
         self.set.get_index_of(name)
     }

@@ -2,8 +2,8 @@ use Rattle.std.proofs.Common.{ap, ◌∙◌, position, bytes_eq, ℕ, Vec, Globa
 use Rattle.lin_text.proofs.NameLemmas.{position-map}
 use Rattle.lin_text.proofs.names.Names.find.Goals as goal
 
-pub returns : goal.returns
-returns c =
+pub returns-clause-place : goal.returns-clause-place
+returns-clause-place c =
     c.get_index_of.ensures.index
     ∙ position-map (λ (k : Vec ℕ Global). k.items) (bytes_eq c.args.name.now) c.self.inside.set.keys
     ∙ ap (position (bytes_eq c.args.name.now)) c.self.view_is
