@@ -3,5 +3,6 @@ pub mod WordLemmas
 pub mod NameLemmas
 pub mod SideLemmas
 pub mod Places
+pub mod Shapes
 mod SmallLemmas
 mod SpaceLemmas
