@@ -4,5 +4,6 @@ pub mod NameLemmas
 pub mod SideLemmas
 pub mod Places
 pub mod Shapes
+pub mod Passing
 mod SmallLemmas
 mod SpaceLemmas

@@ -81,7 +81,7 @@ run-item l n i ps =
       ]
     ]
 
-run-joint : (l : Bool) (n : ℕ) (bare subtracted : Bool) (ps : List Piece) → run (after l n bare) (joint subtracted ∷ ps) ≡ run (item l n) ps
+pub run-joint : (l : Bool) (n : ℕ) (bare subtracted : Bool) (ps : List Piece) → run (after l n bare) (joint subtracted ∷ ps) ≡ run (item l n) ps
 run-joint l n bare true ps = refl
 run-joint l n bare false ps = refl
 
