@@ -5,5 +5,7 @@ pub mod SideLemmas
 pub mod Places
 pub mod Shapes
 pub mod Passing
+pub mod Outcomes
+pub mod Bounds
 mod SmallLemmas
 mod SpaceLemmas

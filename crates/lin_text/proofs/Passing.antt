@@ -29,7 +29,7 @@ begins-more v [] _ e no_var = e
 begins-more v (var ∷ front) q e no_var = e
 begins-more v (_ ∷ front) q e no_var = e
 
-not-nil : (front : List Piece) (q : Piece) → front ++ q ∷ [] ≡ [] → ⊥
+pub not-nil : (front : List Piece) (q : Piece) → front ++ q ∷ [] ≡ [] → ⊥
 not-nil [] q e = cc
 not-nil (p ∷ front) q e = cc
 
@@ -99,9 +99,9 @@ item-begins l n (number k) e b = cc
 item-begins l n (name x) e b = cc
 item-begins l n _ e b = cc
 
--- no fault that may stand at a token stands there
-pub NoFault : List PlainLine → List Piece → Piece → List Piece → Type 0
-NoFault above front q rest = (k : TextKind) → ¬ Stands above front q rest k
+-- no fault stands at a token, unless it is an empty range, which the tokens behind it make
+abbrev pub NoFault : List PlainLine → List Piece → Piece → List Piece → Type 0
+NoFault above front q rest = (k : TextKind) → (k ≡ EmptyRange → ⊥) → ¬ Stands above front q rest k
 
 -- a fault stands at a token, and none that goes before it
 pub record FirstStands (above : List PlainLine) (front : List Piece) (q : Piece) (rest : List Piece) (kind : TextKind) : Type 0 where
@@ -190,3 +190,16 @@ module _ (above : List PlainLine) (v : Bool) (front : List Piece) (s t : Place) 
   small_rank NameTwice h = lit≤ tt
   small_rank EmptyRange h = lit≤ tt
   small_rank NoMemory h = lit≤ tt
+
+  -- no fault stands there
+  pub passed : ((n : ℕ) → q ≡ number n → IsTooLarge front n rest → ⊥) → ((x : List ℕ) → q ≡ name x → v ≡ false → Contains (declared_names above) x) → ((x : List ℕ) → q ≡ name x → front ≡ var ∷ [] → Contains (declared_names above) x → ⊥) → NoFault above front q rest
+  passed small known once TooManyVars ne h = room.vars h.0 h.1
+  passed small known once TooManyAtoms ne h = room.atoms h.0 h.2
+  passed small known once TooManyTerms ne h = no_terms h.0
+  passed small known once Token ne h = not_bad h
+  passed small known once Syntax ne h = h begins
+  passed small known once NumberTooLarge ne h = small h.0 h.1 h.2
+  passed small known once UnknownName ne h = h.3 (known h.0 h.1 (sym at.kind ∙ h.2))
+  passed small known once NameTwice ne h = once h.0 h.1 h.2 h.3
+  passed small known once EmptyRange ne h = ne refl
+  passed small known once NoMemory ne h = h
