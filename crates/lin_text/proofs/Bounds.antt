@@ -57,11 +57,11 @@ pub high_places : AreBoundPlaces high high_number var_end
 high_places = record { number_s = λ n. refl; minus_s = refl; number_m = λ n. refl; other_s = other_high; other_m = other_high_number; room_s = λ l e. cc; room_m = λ l e. cc }
 
 -- what a bound's number means
-abbrev pub IsBound : Place → ℤ → List Piece → Place → Type 0
-IsBound u z ps s = (n : ℕ) × (ps ≡ number n ∷ []) × (z ≡ pos n) × (n ≤ 2 ^ 31) × (s ≡ u)
+abbrev pub IsBound : Place → ℤ → ℕ → List Piece → Place → Type 0
+IsBound u z to ps s = (n : ℕ) × (ps ≡ number n ∷ []) × (z ≡ pos n) × (n ≤ 2 ^ 31) × (s ≡ u)
 
-abbrev pub IsIntegerAt : Place → ℤ → List Piece → Place → Type 0
-IsIntegerAt u z ps s = (i : Integer) × (ps ≡ integer_pieces i) × (z ≡ integer_value i) × (i.size ≤ 2 ^ 31) × (s ≡ u)
+abbrev pub IsIntegerAt : Place → ℤ → ℕ → List Piece → Place → Type 0
+IsIntegerAt u z to ps s = (i : Integer) × (ps ≡ integer_pieces i) × (z ≡ integer_value i) × (i.size ≤ 2 ^ 31) × (s ≡ u)
 
 over_limit : (n : ℕ) → nat_lt (2 ^ 31) (min n (2 ^ 40 + 1)) ≡ true → 2 ^ 31 < n
 over_limit n e = omega (arith, ltb-true (2 ^ 31) (min n (2 ^ 40 + 1)) e)
@@ -118,7 +118,7 @@ module _ (p : Bool) (bytes : List ℕ) (above : List PlainLine) (front : List Pi
   plain : (t : Token p bytes at ts) → is_minus_piece t.token.piece ≡ false → Outcome p bytes above true front ts (IsIntegerAt u) (bound_of (shown t.token))
   plain t no_minus =
       Outcome-weaker p bytes above true front ts (IsBound u) (IsIntegerAt u) (bound_of (shown t.token))
-      (λ z ps w b. (record { negative = false; size = b.0 }, b.1, b.2, b.3, b.4))
+      (λ z to ps w b. (record { negative = false; size = b.0 }, b.1, b.2, b.3, b.4))
       (bound_out p bytes above front at ts some s u here t places.number_s (λ e. places.other_s t.token.piece e no_minus) places.room_s)
 
   sign_got : (t : Token p bytes at ts) → t.token.piece ≡ minus → Gets p bytes above true front ts t.token.to m (t.token.piece ∷ [])
@@ -136,8 +136,8 @@ module _ (p : Bool) (bytes : List ℕ) (above : List PlainLine) (front : List Pi
       let got = sign_got t is in
       let next_token = token_of p bytes t.token.to got.rest got.there in
       Outcome-after p bytes above true front at ts (IsIntegerAt u) t.token.to m (t.token.piece ∷ []) _ got
-      (Outcome-map p bytes above true (front ++ t.token.piece ∷ []) got.rest (IsBound u) (λ z qs w. IsIntegerAt u z ((t.token.piece ∷ []) ++ qs) w) neg_ℤ (bound_of (lexeme_at p bytes t.token.to))
-        (λ z qs w b. (record { negative = true; size = b.0 }, ap (λ (q : Piece). q ∷ qs) is ∙ ap (λ (rs : List Piece). minus ∷ rs) b.1, ap neg_ℤ b.2, b.3, b.4))
+      (Outcome-map p bytes above true (front ++ t.token.piece ∷ []) got.rest (IsBound u) (λ z to qs w. IsIntegerAt u z to ((t.token.piece ∷ []) ++ qs) w) neg_ℤ (bound_of (lexeme_at p bytes t.token.to))
+        (λ z to qs w b. (record { negative = true; size = b.0 }, ap (λ (q : Piece). q ∷ qs) is ∙ ap (λ (rs : List Piece). minus ∷ rs) b.1, ap neg_ℤ b.2, b.3, b.4))
         (subst (λ (l : Lexeme). Outcome p bytes above true (front ++ t.token.piece ∷ []) got.rest (IsBound u) (bound_of l)) (sym next_token.shows)
           (bound_out p bytes above (front ++ t.token.piece ∷ []) t.token.to got.rest (not-nil front t.token.piece) m u got.place next_token places.number_m (λ e. places.other_m next_token.token.piece e) places.room_m)))
 

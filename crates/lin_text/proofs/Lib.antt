@@ -6,6 +6,8 @@ pub mod Places
 pub mod Shapes
 pub mod Passing
 pub mod Outcomes
+pub mod PositionLemmas
 pub mod Bounds
+pub mod Items
 mod SmallLemmas
 mod SpaceLemmas

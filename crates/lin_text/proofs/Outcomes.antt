@@ -126,25 +126,25 @@ module _ (p : Bool) (bytes : List ℕ) (above : List PlainLine) (v : Bool) (fron
       }
 
 -- what was read means M of its tokens and of the place behind them; else it is the first fault
-abbrev pub Outcome : {A : Type 0} → Bool → List ℕ → List PlainLine → Bool → List Piece → List PlainToken → (A → List Piece → Place → Type 0) → Result (A × ℕ) Fault → Type 0
-Outcome p bytes above v front ts M (Ok x) = (ps : List Piece) × (s : Place) × M x.0 ps s × Gets p bytes above v front ts x.1 s ps
+abbrev pub Outcome : {A : Type 0} → Bool → List ℕ → List PlainLine → Bool → List Piece → List PlainToken → (A → ℕ → List Piece → Place → Type 0) → Result (A × ℕ) Fault → Type 0
+Outcome p bytes above v front ts M (Ok x) = (ps : List Piece) × (s : Place) × M x.0 x.1 ps s × Gets p bytes above v front ts x.1 s ps
 Outcome p bytes above v front ts M (Err f) = Fails above front ts f
 
 -- behind tokens that were passed
-pub Outcome-after : {B : Type 0} (p : Bool) (bytes : List ℕ) (above : List PlainLine) (v : Bool) (front : List Piece) (at : ℕ) (ts : List PlainToken) (N : B → List Piece → Place → Type 0) (a : ℕ) (s : Place) (ps : List Piece) (r : Result (B × ℕ) Fault) (g : Gets p bytes above v front ts a s ps) → Outcome p bytes above v (front ++ ps) g.rest (λ b qs u. N b (ps ++ qs) u) r → Outcome p bytes above v front ts N r
+pub Outcome-after : {B : Type 0} (p : Bool) (bytes : List ℕ) (above : List PlainLine) (v : Bool) (front : List Piece) (at : ℕ) (ts : List PlainToken) (N : B → ℕ → List Piece → Place → Type 0) (a : ℕ) (s : Place) (ps : List Piece) (r : Result (B × ℕ) Fault) (g : Gets p bytes above v front ts a s ps) → Outcome p bytes above v (front ++ ps) g.rest (λ b to qs u. N b to (ps ++ qs) u) r → Outcome p bytes above v front ts N r
 Outcome-after p bytes above v front at ts N a s ps (Ok y) g h = (ps ++ h.0, h.1, h.2, Gets-both p bytes above v front at ts a y.1 s h.1 ps h.0 g h.3)
 Outcome-after p bytes above v front at ts N a s ps (Err f) g h = Fails-behind p bytes above v front at ts a s ps f g h
 
-pub Outcome-then : {A B : Type 0} (p : Bool) (bytes : List ℕ) (above : List PlainLine) (v : Bool) (front : List Piece) (at : ℕ) (ts : List PlainToken) (M : A → List Piece → Place → Type 0) (N : B → List Piece → Place → Type 0) (r : Result (A × ℕ) Fault) (g : A × ℕ → Result (B × ℕ) Fault) → Outcome p bytes above v front ts M r → ((a : A) (to : ℕ) (ps : List Piece) (s : Place) → M a ps s → At v (front ++ ps) s → (rest : List PlainToken) → AreTokens p bytes to rest → Outcome p bytes above v (front ++ ps) rest (λ b qs u. N b (ps ++ qs) u) (g (a, to))) → Outcome p bytes above v front ts N (r >>= g)
+pub Outcome-then : {A B : Type 0} (p : Bool) (bytes : List ℕ) (above : List PlainLine) (v : Bool) (front : List Piece) (at : ℕ) (ts : List PlainToken) (M : A → ℕ → List Piece → Place → Type 0) (N : B → ℕ → List Piece → Place → Type 0) (r : Result (A × ℕ) Fault) (g : A × ℕ → Result (B × ℕ) Fault) → Outcome p bytes above v front ts M r → ((a : A) (to : ℕ) (ps : List Piece) (s : Place) → M a to ps s → At v (front ++ ps) s → (rest : List PlainToken) → AreTokens p bytes to rest → Outcome p bytes above v (front ++ ps) rest (λ b to qs u. N b to (ps ++ qs) u) (g (a, to))) → Outcome p bytes above v front ts N (r >>= g)
 Outcome-then p bytes above v front at ts M N (Err f) g o k = o
 Outcome-then p bytes above v front at ts M N (Ok x) g o k =
     Outcome-after p bytes above v front at ts N x.1 o.1 o.0 (g x) o.3 (k x.0 x.1 o.0 o.1 o.2 o.3.place o.3.rest o.3.there)
 
 -- the same tokens, with another value and meaning
-pub Outcome-map : {A B : Type 0} (p : Bool) (bytes : List ℕ) (above : List PlainLine) (v : Bool) (front : List Piece) (ts : List PlainToken) (M : A → List Piece → Place → Type 0) (N : B → List Piece → Place → Type 0) (h : A → B) (r : Result (A × ℕ) Fault) → ((a : A) (ps : List Piece) (s : Place) → M a ps s → N (h a) ps s) → Outcome p bytes above v front ts M r → Outcome p bytes above v front ts N (r >>= λ x. Ok (h x.0, x.1))
-Outcome-map p bytes above v front ts M N h (Ok x) f o = (o.0, o.1, f x.0 o.0 o.1 o.2, o.3)
+pub Outcome-map : {A B : Type 0} (p : Bool) (bytes : List ℕ) (above : List PlainLine) (v : Bool) (front : List Piece) (ts : List PlainToken) (M : A → ℕ → List Piece → Place → Type 0) (N : B → ℕ → List Piece → Place → Type 0) (h : A → B) (r : Result (A × ℕ) Fault) → ((a : A) (to : ℕ) (ps : List Piece) (s : Place) → M a to ps s → N (h a) to ps s) → Outcome p bytes above v front ts M r → Outcome p bytes above v front ts N (r >>= λ x. Ok (h x.0, x.1))
+Outcome-map p bytes above v front ts M N h (Ok x) f o = (o.0, o.1, f x.0 x.1 o.0 o.1 o.2, o.3)
 Outcome-map p bytes above v front ts M N h (Err e) f o = o
 
-pub Outcome-weaker : {A : Type 0} (p : Bool) (bytes : List ℕ) (above : List PlainLine) (v : Bool) (front : List Piece) (ts : List PlainToken) (M N : A → List Piece → Place → Type 0) (r : Result (A × ℕ) Fault) → ((a : A) (ps : List Piece) (s : Place) → M a ps s → N a ps s) → Outcome p bytes above v front ts M r → Outcome p bytes above v front ts N r
-Outcome-weaker p bytes above v front ts M N (Ok x) f o = (o.0, o.1, f x.0 o.0 o.1 o.2, o.3)
+pub Outcome-weaker : {A : Type 0} (p : Bool) (bytes : List ℕ) (above : List PlainLine) (v : Bool) (front : List Piece) (ts : List PlainToken) (M N : A → ℕ → List Piece → Place → Type 0) (r : Result (A × ℕ) Fault) → ((a : A) (to : ℕ) (ps : List Piece) (s : Place) → M a to ps s → N a to ps s) → Outcome p bytes above v front ts M r → Outcome p bytes above v front ts N r
+Outcome-weaker p bytes above v front ts M N (Ok x) f o = (o.0, o.1, f x.0 x.1 o.0 o.1 o.2, o.3)
 Outcome-weaker p bytes above v front ts M N (Err e) f o = o

@@ -203,3 +203,45 @@ module _ (above : List PlainLine) (v : Bool) (front : List Piece) (s t : Place) 
   passed small known once NameTwice ne h = once h.0 h.1 h.2 h.3
   passed small known once EmptyRange ne h = ne refl
   passed small known once NoMemory ne h = h
+
+  -- no fault that goes before an empty range stands there
+  pub late_rank : ((n : ℕ) → q ≡ number n → IsTooLarge front n rest → ⊥) → ((x : List ℕ) → q ≡ name x → v ≡ false → Contains (declared_names above) x) → ((x : List ℕ) → q ≡ name x → front ≡ var ∷ [] → Contains (declared_names above) x → ⊥) → (k : TextKind) → Stands above front q rest k → 8 ≤ rank k
+  late_rank small known once EmptyRange h = lit≤ tt
+  late_rank small known once TooManyVars h = absurd (passed small known once TooManyVars (λ e. cc) h)
+  late_rank small known once TooManyAtoms h = absurd (passed small known once TooManyAtoms (λ e. cc) h)
+  late_rank small known once TooManyTerms h = absurd (passed small known once TooManyTerms (λ e. cc) h)
+  late_rank small known once Token h = absurd (passed small known once Token (λ e. cc) h)
+  late_rank small known once Syntax h = absurd (passed small known once Syntax (λ e. cc) h)
+  late_rank small known once NumberTooLarge h = absurd (passed small known once NumberTooLarge (λ e. cc) h)
+  late_rank small known once UnknownName h = absurd (passed small known once UnknownName (λ e. cc) h)
+  late_rank small known once NameTwice h = absurd (passed small known once NameTwice (λ e. cc) h)
+  late_rank small known once NoMemory h = absurd h
+
+  -- at a name only what is wrong with names stands
+  pub name_rank : ((n : ℕ) → q ≡ number n → ⊥) → (k : TextKind) → Stands above front q rest k → 6 ≤ rank k
+  name_rank no_number NumberTooLarge h = absurd (no_number h.0 h.1)
+  name_rank no_number UnknownName h = lit≤ tt
+  name_rank no_number NameTwice h = lit≤ tt
+  name_rank no_number EmptyRange h = lit≤ tt
+  name_rank no_number NoMemory h = lit≤ tt
+  name_rank no_number TooManyVars h = absurd (omega (arith, small_rank TooManyVars h))
+  name_rank no_number TooManyAtoms h = absurd (omega (arith, small_rank TooManyAtoms h))
+  name_rank no_number TooManyTerms h = absurd (omega (arith, small_rank TooManyTerms h))
+  name_rank no_number Token h = absurd (omega (arith, small_rank Token h))
+  name_rank no_number Syntax h = absurd (omega (arith, small_rank Syntax h))
+
+  pub twice_rank : ((n : ℕ) → q ≡ number n → ⊥) → v ≡ true → (k : TextKind) → Stands above front q rest k → 7 ≤ rank k
+  twice_rank no_number declares UnknownName h = let e : false ≡ true = sym h.2 ∙ at.kind ∙ declares in absurd (cc)
+  twice_rank no_number declares NumberTooLarge h = absurd (no_number h.0 h.1)
+  twice_rank no_number declares NameTwice h = lit≤ tt
+  twice_rank no_number declares EmptyRange h = lit≤ tt
+  twice_rank no_number declares NoMemory h = lit≤ tt
+  twice_rank no_number declares TooManyVars h = absurd (omega (arith, small_rank TooManyVars h))
+  twice_rank no_number declares TooManyAtoms h = absurd (omega (arith, small_rank TooManyAtoms h))
+  twice_rank no_number declares TooManyTerms h = absurd (omega (arith, small_rank TooManyTerms h))
+  twice_rank no_number declares Token h = absurd (omega (arith, small_rank Token h))
+  twice_rank no_number declares Syntax h = absurd (omega (arith, small_rank Syntax h))
+
+  -- a sign, or the end of the line
+  pub sign_passed : ((n : ℕ) → q ≡ number n → ⊥) → ((x : List ℕ) → q ≡ name x → ⊥) → NoFault above front q rest
+  sign_passed no_number no_name = passed (λ n e _. no_number n e) (λ x e. absurd (no_name x e)) (λ x e. absurd (no_name x e))
