@@ -44,6 +44,12 @@ module _ (p : Bool) (bytes : List ℕ) (above : List PlainLine) (front : List Pi
        (At-next false front w u t.token.piece here room.vars (ap (next w) is ∙ some))
        (ap is_last is))
 
+  pub name_out : (w u : Place) → At false front w → (x : List ℕ) → t.token.piece ≡ name x → next w (name x) ≡ Some u → ((l : Bool) → next w minus ≡ Some (size l 64) → ⊥) → (f : ℤ) → Outcome p bytes above false front ts (IsNamed (declared_names above) f u) (variable_of bytes (declared_names above) (shown t.token) f)
+  unfolding variable_of
+  name_out w u here x is some space f =
+      subst (λ (b : Bool). Outcome p bytes above false front ts (IsNamed (declared_names above) f u) (cond b (variable_by (number_in (declared_names above) bytes (shown t.token)) (shown t.token) f) (Err (refusal (shown t.token)))))
+      (sym (ap (λ (r : Piece). is_name_class (class_of r)) is)) (found w u here x is some space f _ refl)
+
   -- a name where one may stand
   pub variable_out : (w u : Place) → At false front w → ((x : List ℕ) → next w (name x) ≡ Some u) → ((q : Piece) → is_name_class (class_of q) ≡ false → next w q ≡ None) → ((l : Bool) → next w minus ≡ Some (size l 64) → ⊥) → (f : ℤ) → Outcome p bytes above false front ts (IsNamed (declared_names above) f u) (variable_of bytes (declared_names above) (shown t.token) f)
   unfolding variable_of
@@ -182,3 +188,85 @@ module _ (p : Bool) (bytes : List ℕ) (above : List PlainLine) (front : List Pi
         true ↦ λ e. product_out e (same ∙ e) (nat_lt (2 ^ 31) capped) refl
         | false ↦ λ e. constant_out e (same ∙ e) (nat_lt (2 ^ 40) capped) refl
       ] refl
+
+abbrev is_number : Piece → Bool
+is_number (number n) = true
+is_number _ = false
+
+-- an item without its minus
+module _ (p : Bool) (bytes : List ℕ) (above : List PlainLine) (front : List Piece) (at : ℕ) (ts : List PlainToken) (t : Token p bytes at ts) (more : is_last t.token.piece ≡ false → AreTokens p bytes t.token.to t.more) (room : IsRoom above front t.token.piece) (w : Place) (l : Bool) (k : ℕ) (here : At false front w) (space : (r : Bool) → next w minus ≡ Some (size r 64) → ⊥) (negative : Bool) where
+  quantity_by_out : ((n : ℕ) → next w (number n) ≡ Some (after l (suc k) true)) → ((x : List ℕ) → next w (name x) ≡ Some (after l (suc k) false)) → ((q : Piece) → t.token.piece ≡ q → is_number q ≡ false → is_name_class (class_of q) ≡ false → next w q ≡ None) → (q : Piece) → t.token.piece ≡ q → Outcome p bytes above false front ts (IsQuantityAt p bytes (declared_names above) negative l k) (quantity_by (class_of q) p bytes (declared_names above) negative (shown t.token))
+  quantity_by_out num nam other (number n) is = number_out p bytes above front at ts t room w l k here n is (num n) space negative (more (ap is_last is))
+  quantity_by_out num nam other (name x) is =
+      Outcome-weaker p bytes above false front ts (IsNamed (declared_names above) (signed negative 1) (after l (suc k) false)) (IsQuantityAt p bytes (declared_names above) negative l k) (variable_of bytes (declared_names above) (shown t.token) (signed negative 1))
+      (λ b to qs u m. (single m.0, false, m.2, ap (λ (v : PlainTerm). v.factor) m.3, (m.1, ap (λ (v : PlainTerm). v.var) m.3, m.4), subst (λ (v : PlainTerm). TermFits v) (sym m.3) (fits_of (signed negative 1) (Some m.1) negative 1 (2 ^ 31) refl (omega arith)), m.5, λ e. absurd (cc)))
+      (name_out p bytes above front at ts t room w (after l (suc k) false) here x is (nam x) space (signed negative 1))
+  quantity_by_out num nam other q is = refuse p bytes above front at ts t room w here (ap (next w) is ∙ other q is refl refl)
+
+  pub quantity_out : ((n : ℕ) → next w (number n) ≡ Some (after l (suc k) true)) → ((x : List ℕ) → next w (name x) ≡ Some (after l (suc k) false)) → ((q : Piece) → t.token.piece ≡ q → is_number q ≡ false → is_name_class (class_of q) ≡ false → next w q ≡ None) → Outcome p bytes above false front ts (IsQuantityAt p bytes (declared_names above) negative l k) (quantity_at p bytes (declared_names above) negative (shown t.token))
+  unfolding quantity_at
+  quantity_out num nam other = quantity_by_out num nam other t.token.piece refl
+
+-- which term of a side an item is
+abbrev pub IsItemAt : Bool → List ℕ → List (List ℕ) → Bool → Bool → ℕ → PlainTerm → ℕ → List Piece → Place → Type 0
+IsItemAt p bytes names subtracted l k term to ps s =
+    (i : Item) × (bare : Bool) × (ps ≡ item_pieces i) × IsTerm names subtracted i term × (s ≡ after l (suc k) bare) × (bare ≡ true → is_times (lexeme_at p bytes to).class ≡ false)
+
+plain_factor : (a : Bool) (n : ℕ) → signed a n ≡ signed a 1 *ℤ signed false n
+plain_factor true n = omega (arith, ints)
+plain_factor false n = omega (arith, ints)
+
+minus_factor : (a : Bool) (n : ℕ) → signed (not a) n ≡ signed a 1 *ℤ signed true n
+minus_factor true n = omega (arith, ints)
+minus_factor false n = omega (arith, ints)
+
+other_item : (l : Bool) (k : ℕ) (q : Piece) → is_minus (class_of q) ≡ false → is_number q ≡ false → is_name_class (class_of q) ≡ false → next (item l k) q ≡ None
+other_item l k minus e f g = absurd (cc)
+other_item l k (number n) e f g = absurd (cc)
+other_item l k (name x) e f g = absurd (cc)
+other_item l k _ e f g = refl
+
+other_size : (l : Bool) (k : ℕ) (q : Piece) → is_number q ≡ false → is_name_class (class_of q) ≡ false → next (size l k) q ≡ None
+other_size l k (number n) f g = absurd (cc)
+other_size l k (name x) f g = absurd (cc)
+other_size l k _ f g = refl
+
+not_full : (l : Bool) (k : ℕ) → k < 64 → (r : Bool) → next (item l k) minus ≡ Some (size r 64) → ⊥
+not_full l k lt r e = let same : k ≡ 64 = cc in absurd (omega arith)
+
+-- an item
+module _ (p : Bool) (bytes : List ℕ) (above : List PlainLine) (front : List Piece) (at : ℕ) (ts : List PlainToken) (l : Bool) (k : ℕ) (few : k < 64) (here : At false front (item l k)) (subtracted : Bool) where
+  abbrev Means : PlainTerm → ℕ → List Piece → Place → Type 0
+  Means = IsItemAt p bytes (declared_names above) subtracted l k
+
+  negated_out : (t : Token p bytes at ts) → IsRoom above front t.token.piece → t.token.piece ≡ minus → Outcome p bytes above false front ts Means (quantity_at p bytes (declared_names above) (not subtracted) (lexeme_at p bytes t.token.to))
+  negated_out t room is =
+      let first = Gets-one p bytes above false front at ts t (size l k)
+        (sign_passed above false front (item l k) (size l k) t.token.piece (pieces t.more) here room (ap (next (item l k)) is) (not_full l k few)
+          (λ m same. let no : minus ≡ number m = sym is ∙ same in cc)
+          (λ x same. let no : minus ≡ name x = sym is ∙ same in cc))
+        (At-next false front (item l k) (size l k) t.token.piece here room.vars (ap (next (item l k)) is))
+        (ap is_last is) in
+      let second = token_of p bytes t.token.to first.rest first.there in
+      Outcome-after p bytes above false front at ts Means t.token.to (size l k) (t.token.piece ∷ []) _ first
+      (Outcome-weaker p bytes above false (front ++ t.token.piece ∷ []) first.rest (IsQuantityAt p bytes (declared_names above) (not subtracted) l k) (λ b to qs u. Means b to ((t.token.piece ∷ []) ++ qs) u) _
+        (λ b to qs u m. (record { negative = true; quantity = m.0 }, m.1, ap (λ (q : Piece). q ∷ qs) is ∙ ap (λ (rs : List Piece). minus ∷ rs) m.2, record { factor = m.3 ∙ minus_factor subtracted (quantity_size m.0); on = m.4; fits = m.5 }, m.6, m.7))
+        (subst (λ (x : Lexeme). Outcome p bytes above false (front ++ t.token.piece ∷ []) first.rest (IsQuantityAt p bytes (declared_names above) (not subtracted) l k) (quantity_at p bytes (declared_names above) (not subtracted) x)) (sym second.shows)
+          (quantity_out p bytes above (front ++ t.token.piece ∷ []) t.token.to first.rest second second.on (later_room above front t.token.piece second.token.piece) (size l k) l k first.place (λ r e. cc) (not subtracted) (λ n. refl) (λ x. refl) (λ q same f g. other_size l k q f g))))
+
+  plain_out : (t : Token p bytes at ts) → IsRoom above front t.token.piece → is_minus (class_of t.token.piece) ≡ false → Outcome p bytes above false front ts Means (quantity_at p bytes (declared_names above) subtracted (shown t.token))
+  plain_out t room no_minus =
+      Outcome-weaker p bytes above false front ts (IsQuantityAt p bytes (declared_names above) subtracted l k) Means (quantity_at p bytes (declared_names above) subtracted (shown t.token))
+      (λ b to qs u m. (record { negative = false; quantity = m.0 }, m.1, m.2, record { factor = m.3 ∙ plain_factor subtracted (quantity_size m.0); on = m.4; fits = m.5 }, m.6, m.7))
+      (quantity_out p bytes above front at ts t t.on room (item l k) l k here (not_full l k few) subtracted (λ n. refl) (λ x. refl) (λ q same f g. other_item l k q (ap (λ (r : Piece). is_minus (class_of r)) (sym same) ∙ no_minus) f g))
+
+  by_piece : (t : Token p bytes at ts) → IsRoom above front t.token.piece → (q : Piece) → t.token.piece ≡ q → (b : Bool) → is_minus (class_of q) ≡ b → Outcome p bytes above false front ts Means (cond b (quantity_at p bytes (declared_names above) (not subtracted) (lexeme_at p bytes t.token.to)) (quantity_at p bytes (declared_names above) subtracted (shown t.token)))
+  by_piece t room q is false e = plain_out t room (ap (λ (r : Piece). is_minus (class_of r)) is ∙ e)
+  by_piece t room minus is true e = negated_out t room is
+  by_piece t room _ is true e = absurd (cc)
+
+  pub item_out : (t : Token p bytes at ts) → IsRoom above front t.token.piece → Outcome p bytes above false front ts Means (item_at p bytes (declared_names above) subtracted at)
+  unfolding item_at
+  item_out t room =
+      subst (λ (x : Lexeme). Outcome p bytes above false front ts Means (cond (is_minus x.class) (quantity_at p bytes (declared_names above) (not subtracted) (lexeme_at p bytes x.to)) (quantity_at p bytes (declared_names above) subtracted x))) (sym t.shows)
+      (by_piece t room t.token.piece refl (is_minus (class_of t.token.piece)) refl)
