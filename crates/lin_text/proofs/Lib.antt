@@ -9,5 +9,6 @@ pub mod Outcomes
 pub mod PositionLemmas
 pub mod Bounds
 pub mod Items
+pub mod Sides
 mod SmallLemmas
 mod SpaceLemmas

@@ -75,6 +75,17 @@ module _ (p : Bool) (bytes : List ℕ) (above : List PlainLine) (v : Bool) (fron
     place = place;
   }
 
+  pub Gets-none : (s : Place) → AreTokens p bytes at ts → At v front s → Gets p bytes above v front ts at s []
+  Gets-none s are place = record {
+    used = [];
+    rest = ts;
+    split = refl;
+    are = refl;
+    passes = tt;
+    there = are;
+    place = subst (λ (f : List Piece). At v f s) (sym (append-nil front)) place;
+  }
+
   pub Fails-one : (t : Token p bytes at ts) (kind : TextKind) → FirstStands above front t.token.piece (pieces t.more) kind → Fails above front ts (fault_at kind t.token.from)
   Fails-one t kind first = record {
     used = [];
