@@ -72,7 +72,7 @@ within_limit n e = omega (arith, ltb-false (2 ^ 31) (min n (2 ^ 40 + 1)) e)
 same_number : (n : ℕ) → n ≤ 2 ^ 31 → min n (2 ^ 40 + 1) ≡ n
 same_number n le = omega arith
 
-not_too_large : (front : List Piece) (n : ℕ) (rest : List Piece) → begins_variable front ≡ true → n ≤ 2 ^ 31 → IsTooLarge front n rest → ⊥
+pub not_too_large : (front : List Piece) (n : ℕ) (rest : List Piece) → begins_variable front ≡ true → n ≤ 2 ^ 31 → IsTooLarge front n rest → ⊥
 not_too_large front n rest v le (inl big) = let lt : 2 ^ 31 < n = subst (λ (b : Bool). MatchBool b (2 ^ 31 < n) (2 ^ 40 < n)) v big in omega arith
 not_too_large front n rest v le (inr big) = let lt : 2 ^ 31 < n = big.0 in omega arith
 

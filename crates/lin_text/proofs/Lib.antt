@@ -10,5 +10,7 @@ pub mod PositionLemmas
 pub mod Bounds
 pub mod Items
 pub mod Sides
+pub mod AtomLines
+pub mod VarLines
 mod SmallLemmas
 mod SpaceLemmas

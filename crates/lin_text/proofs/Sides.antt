@@ -85,11 +85,11 @@ joint-sign _ e = absurd (cc)
 not_size : (l : Bool) (n : ℕ) (bare : Bool) (r : Bool) → next (after l n bare) minus ≡ Some (size r 64) → ⊥
 not_size l n bare r e = cc
 
-right-nil : (xs ys : List Piece) → xs ++ ys ≡ [] → ys ≡ []
+pub right-nil : (xs ys : List Piece) → xs ++ ys ≡ [] → ys ≡ []
 right-nil [] ys e = e
 right-nil (x ∷ xs) ys e = absurd (cc)
 
-item_pieces-some : (negative : Bool) (q : Quantity) → sign negative ++ quantity_pieces q ≡ [] → ⊥
+pub item_pieces-some : (negative : Bool) (q : Quantity) → sign negative ++ quantity_pieces q ≡ [] → ⊥
 item_pieces-some true q e = cc
 item_pieces-some false (constant n) e = cc
 item_pieces-some false (multiple n x) e = cc
