@@ -1,0 +1,3 @@
+pub mod Names
+pub mod Linked
+pub mod Slices

@@ -1,0 +1,51 @@
+-- The slices of a condition.
+use Rattle.std.specs.Prelude.{◌≡◌, ◌↔◌, ℕ, ◌<◌, List, [], ◌∷◌, ◌++◌, length, slice_index, All, Any, AllPairs, Contains}
+use Rattle.lin_model.specs.Conditions.{PlainCondition}
+use Rattle.slicer.specs.Names.{NamesAt, NamesNothingAt}
+use Rattle.slicer.specs.Linked.{Linked}
+
+-- the numbers of a slice's variables, and those of its atoms
+pub record PlainSlice : Type 0 where
+  pub vars : List ℕ
+  pub atoms : List ℕ
+
+-- the list has just the numbers of which P holds, in ascending order
+pub record Lists (P : ℕ → Type 0) (numbers : List ℕ) : Type 0 where
+  pub ascending : AllPairs ◌<◌ numbers
+  pub just : (n : ℕ) → Contains numbers n ↔ P n
+
+-- the least variable of a slice that has any
+abbrev pub least : PlainSlice → ℕ
+least slice = slice_index slice.vars 0
+
+-- the slice of a variable: the variables that are linked with it, and the atoms that name one of them
+pub record IsSliceOf (c : PlainCondition) (var : ℕ) (slice : PlainSlice) : Type 0 where
+  pub declared : var < length c.vars
+  pub vars : Lists (λ v. (v < length c.vars) × Linked c var v) slice.vars
+  pub atoms : Lists (λ j. (v : ℕ) × Linked c var v × NamesAt c.atoms j v) slice.atoms
+
+-- one slice for each class of linked variables, by least variable
+pub record AreClasses (c : PlainCondition) (slices : List PlainSlice) : Type 0 where
+  pub each : All (λ slice. IsSliceOf c (least slice) slice) slices
+  pub by_least : AllPairs (λ earlier later. least earlier < least later) slices
+  pub every : (v : ℕ) → v < length c.vars → Any (λ slice. Contains slice.vars v) slices
+
+-- the slice of all atoms that name no variable, of which there are some
+pub record IsLoose (c : PlainCondition) (slice : PlainSlice) : Type 0 where
+  pub vars : slice.vars ≡ []
+  pub atoms : Lists (NamesNothingAt c.atoms) slice.atoms
+  pub some : 0 < length slice.atoms
+
+-- what stands in front of the classes: nothing where each atom names a variable, else one slice
+abbrev pub IsFront : PlainCondition → List PlainSlice → Type 0
+IsFront c [] = (j : ℕ) → ¬ NamesNothingAt c.atoms j
+IsFront c (slice ∷ []) = IsLoose c slice
+IsFront c (slice ∷ another ∷ more) = ⊥
+
+-- the slices: in front the one of the atoms that name no variable, where there are any, then the classes
+pub record AreSlices (c : PlainCondition) (slices : List PlainSlice) : Type 0 where
+  pub front : List PlainSlice
+  pub classes : List PlainSlice
+  pub joined : slices ≡ front ++ classes
+  pub loose : IsFront c front
+  pub linked : AreClasses c classes

@@ -1,0 +1,6 @@
+//! Cuts a condition into slices that share no variable.
+#![tactic(auto)]
+
+mod slice;
+
+pub use slice::Slice;
