@@ -1,3 +1,4 @@
 pub mod Names
 pub mod Linked
 pub mod Slices
+pub mod VarSets

@@ -2,5 +2,6 @@
 #![tactic(auto)]
 
 mod slice;
+mod var_set;
 
 pub use slice::Slice;
