@@ -1,1 +1,4 @@
 mod Bits
+mod ChainLemmas
+mod NamedLemmas
+mod SpreadLemmas

@@ -1,7 +1,9 @@
 //! Cuts a condition into slices that share no variable.
 #![tactic(auto)]
 
+mod named;
 mod slice;
+mod spread;
 mod var_set;
 
 pub use slice::Slice;
