@@ -2,3 +2,4 @@ mod Bits
 mod ChainLemmas
 mod NamedLemmas
 mod SpreadLemmas
+mod ListsLemmas

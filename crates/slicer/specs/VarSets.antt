@@ -10,6 +10,10 @@ use Rattle.slicer.specs.Linked.{Chain}
 abbrev pub Has : VarSet → ℕ → Type 0
 Has set var = bit_at set.bits var ≡ 1
 
+-- no variable is in the set
+abbrev pub IsVoid : VarSet → Type 0
+IsVoid set = (v : ℕ) → ¬ Has set v
+
 -- some variable is in both sets
 abbrev pub Meet : VarSet → VarSet → Type 0
 Meet a b = (v : ℕ) × Has a v × Has b v

@@ -1,6 +1,7 @@
 //! Cuts a condition into slices that share no variable.
 #![tactic(auto)]
 
+mod members;
 mod named;
 mod slice;
 mod spread;

@@ -10,11 +10,11 @@ pub struct VarSet {
 }
 
 impl VarSet {
-    ghost use Rattle.slicer.specs.VarSets.{Has, Meet};
+    ghost use Rattle.slicer.specs.VarSets.{Has, Meet, IsVoid};
 
     /// The set without variables.
     pub fn empty() -> VarSet
-        ensures { (v : ℕ) → ¬ Has result v }
+        ensures { IsVoid result }
     {
         VarSet { bits: 0 }
     }
@@ -54,7 +54,7 @@ impl VarSet {
 
     /// Whether no variable is in the set.
     pub fn is_empty(self) -> bool
-        ensures { IsTrue result ↔ ((v : ℕ) → ¬ Has self v) }
+        ensures { IsTrue result ↔ IsVoid self }
     {
         self.bits == 0
     }
