@@ -3,3 +3,5 @@ mod ChainLemmas
 mod NamedLemmas
 mod SpreadLemmas
 mod ListsLemmas
+mod SetLemmas
+mod ClassLemmas

@@ -30,22 +30,22 @@ pub record AreClasses (c : PlainCondition) (slices : List PlainSlice) : Type 0 w
   pub by_least : AllPairs (λ earlier later. least earlier < least later) slices
   pub every : (v : ℕ) → v < length c.vars → Any (λ slice. Contains slice.vars v) slices
 
--- the slice of all atoms that name no variable, of which there are some
-pub record IsLoose (c : PlainCondition) (slice : PlainSlice) : Type 0 where
+-- the slice without variables of just the atoms of which P holds, and there are some
+pub record IsLoose (P : ℕ → Type 0) (slice : PlainSlice) : Type 0 where
   pub vars : slice.vars ≡ []
-  pub atoms : Lists (NamesNothingAt c.atoms) slice.atoms
+  pub atoms : Lists P slice.atoms
   pub some : 0 < length slice.atoms
 
--- what stands in front of the classes: nothing where each atom names a variable, else one slice
-abbrev pub IsFront : PlainCondition → List PlainSlice → Type 0
-IsFront c [] = (j : ℕ) → ¬ NamesNothingAt c.atoms j
-IsFront c (slice ∷ []) = IsLoose c slice
-IsFront c (slice ∷ another ∷ more) = ⊥
+-- the one slice of the atoms of which P holds, or nothing where there are none
+abbrev pub IsFront : (ℕ → Type 0) → List PlainSlice → Type 0
+IsFront P [] = (j : ℕ) → ¬ P j
+IsFront P (slice ∷ []) = IsLoose P slice
+IsFront P (slice ∷ another ∷ more) = ⊥
 
--- the slices: in front the one of the atoms that name no variable, where there are any, then the classes
+-- in front the slice of the atoms that name no variable, where there are any, and then the classes
 pub record AreSlices (c : PlainCondition) (slices : List PlainSlice) : Type 0 where
   pub front : List PlainSlice
   pub classes : List PlainSlice
   pub joined : slices ≡ front ++ classes
-  pub loose : IsFront c front
+  pub loose : IsFront (NamesNothingAt c.atoms) front
   pub linked : AreClasses c classes
