@@ -1,5 +1,5 @@
 -- The classes of linked variables, as one variable after another is looked at.
-use Rattle.std.proofs.Common.{◌≡◌, ◌≢◌, ◌↔◌, ℕ, ◌+◌, ◌<◌, ◌≤◌, List, [], ◌∷◌, ◌++◌, length, get_or, ◌⊎◌, inl, inr, refl, arith, sym, subst, ap, ◌∙◌}
+use Rattle.std.proofs.Common.{◌≡◌, ◌↔◌, ℕ, ◌+◌, ◌<◌, ◌≤◌, List, [], ◌∷◌, ◌++◌, length, get_or, ◌⊎◌, inl, inr, refl, arith, sym, subst, ◌∙◌}
 use Rattle.std.specs.Prelude.{All, Any, AllPairs, Contains}
 use Rattle.std.specs.List.{HoldsAt}
 use Rattle.std.proofs.lemmas.List.{get_or_default, length_push}
@@ -10,7 +10,7 @@ use Rattle.std.proofs.lemmas.List.Quantifiers.{all_pairs_push, Any-push}
 use Rattle.std.proofs.lemmas.Bool.Decides.{eqb_tells}
 use Rattle.lin_model.specs.Conditions.{PlainCondition}
 use Rattle.slicer.specs.declared.var_set.VarSet.{VarSet}
-use Rattle.slicer.specs.Linked.{Chain, Linked, alone}
+use Rattle.slicer.specs.Linked.{Linked, alone}
 use Rattle.slicer.specs.Names.{Names}
 use Rattle.slicer.specs.Slices.{PlainSlice, Lists, IsSliceOf, AreClasses, least}
 use Rattle.slicer.specs.VarSets.{Has, Meet, IsVoid, AreSetsOf, IsReached}
@@ -57,10 +57,10 @@ first_of_ascending : (numbers : List ℕ) (n : ℕ) → AllPairs ◌<◌ numbers
 first_of_ascending numbers n ascending has = (
   Contains-get_or numbers 0 0 (let within = has.1 in omega arith),
   let here : get_or numbers has.0 0 ≡ n = get_or_default numbers has.0 0 n has.1 ∙ has.2 in
-  elim (eqb_tells has.0 0) [
-    inl zero ↦ (let first : get_or numbers 0 0 ≡ n = subst (λ (k : ℕ). get_or numbers k 0 ≡ n) zero.1 here in omega arith)
-  | inr later ↦ (let ne = later.1 in let lt : get_or numbers 0 0 < get_or numbers has.0 0 = ascending 0 has.0 0 (omega arith) has.1 in omega arith)
-  ],
+      elim (eqb_tells has.0 0) [
+        | inl zero ↦ (let first : get_or numbers 0 0 ≡ n = subst (λ (k : ℕ). get_or numbers k 0 ≡ n) zero.1 here in omega arith)
+        | inr later ↦ (let ne = later.1 in let lt : get_or numbers 0 0 < get_or numbers has.0 0 = ascending 0 has.0 0 (omega arith) has.1 in omega arith)
+      ],
 )
 
 -- a variable that no earlier slice has is the least of its class
@@ -70,40 +70,40 @@ least_is c var slices seen slice so_far unseen here =
     let first = first_of_ascending slice.vars var here.vars.ascending self in
     let joined = (here.vars.just (least slice)).0 first.0 in
     elim (eqb_tells (least slice) var) [
-      inl same ↦ same.1
-    | inr other ↦ absurd (
-        let ne = other.1 in
-        let le = first.1 in
-        let earlier = so_far.every (least slice) (omega arith) in
-        let some = (so_far.in_some (least slice) joined.0).0 earlier in
-        let before = some.1 in
-        let its : IsSliceOf c (least before) before = subst (λ (s : PlainSlice). IsSliceOf c (least s) s) some.3 (so_far.each some.0 before some.2) in
-        let chain = Chain-append Names c.atoms ((its.vars.just (least slice)).0 some.4).1 (Chain-turned Names c.atoms joined.1) in
-        unseen ((so_far.in_some var here.declared).1 (some.0, before, some.2, some.3, (its.vars.just var).1 (here.declared, chain)))
-      )
+      | inl same ↦ same.1
+      | inr other ↦ absurd (
+          let ne = other.1 in
+          let le = first.1 in
+          let earlier = so_far.every (least slice) (omega arith) in
+          let some = (so_far.in_some (least slice) joined.0).0 earlier in
+          let before = some.1 in
+          let its : IsSliceOf c (least before) before = subst (λ (s : PlainSlice). IsSliceOf c (least s) s) some.3 (so_far.each some.0 before some.2) in
+          let chain = Chain-append Names c.atoms ((its.vars.just (least slice)).0 some.4).1 (Chain-turned Names c.atoms joined.1) in
+          unseen ((so_far.in_some var here.declared).1 (some.0, before, some.2, some.3, (its.vars.just var).1 (here.declared, chain)))
+          )
     ]
 
 -- a list with one more slice has what the new one has
 InSome-push : (slices : List PlainSlice) (slice : PlainSlice) (v : ℕ) → InSome (slices ++ slice ∷ []) v ↔ (InSome slices v ⊎ Contains slice.vars v)
 InSome-push slices slice v = (
   λ some.
-    let length_is = length_push slices slice in
-    let within = some.2 in
-    elim (below_or_same some.0 (length slices) (omega arith)) [
-      inl earlier ↦ inl (some.0, some.1, earlier, sym (get_or-append slices (slice ∷ []) some.1 some.0 earlier) ∙ some.3, some.4)
-    | inr last ↦ inr (
-        let at : get_or (slices ++ slice ∷ []) (length slices) some.1 ≡ some.1 = subst (λ (k : ℕ). get_or (slices ++ slice ∷ []) k some.1 ≡ some.1) last some.3 in
-        let is : some.1 ≡ slice = sym at ∙ get_or-append_seam slices slice [] some.1 in
-        subst (λ (s : PlainSlice). Contains s.vars v) is some.4
-      )
-    ],
-  λ one. elim one [
-    inl earlier ↦ (
       let length_is = length_push slices slice in
-      let within = earlier.2 in
-      (earlier.0, earlier.1, omega arith, get_or-append slices (slice ∷ []) earlier.1 earlier.0 earlier.2 ∙ earlier.3, earlier.4)
-    )
-  | inr last ↦ Any-push (λ (s : PlainSlice). Contains s.vars v) slices slice last
+      let within = some.2 in
+      elim (below_or_same some.0 (length slices) (omega arith)) [
+        | inl earlier ↦ inl (some.0, some.1, earlier, sym (get_or-append slices (slice ∷ []) some.1 some.0 earlier) ∙ some.3, some.4)
+        | inr last ↦ inr (
+            let at : get_or (slices ++ slice ∷ []) (length slices) some.1 ≡ some.1 = subst (λ (k : ℕ). get_or (slices ++ slice ∷ []) k some.1 ≡ some.1) last some.3 in
+            let is : some.1 ≡ slice = sym at ∙ get_or-append_seam slices slice [] some.1 in
+            subst (λ (s : PlainSlice). Contains s.vars v) is some.4
+            )
+      ],
+  λ one. elim one [
+    | inl earlier ↦ (
+        let length_is = length_push slices slice in
+        let within = earlier.2 in
+        (earlier.0, earlier.1, omega arith, get_or-append slices (slice ∷ []) earlier.1 earlier.0 earlier.2 ∙ earlier.3, earlier.4)
+        )
+    | inr last ↦ Any-push (λ (s : PlainSlice). Contains s.vars v) slices slice last
   ],
 )
 
@@ -134,9 +134,9 @@ AreClasses-all c slices seen all = record {
 pub reached_is_linked : (c : PlainCondition) (sets : List VarSet) (var : ℕ) (first linked : VarSet) → AreSetsOf c.atoms sets → ((v : ℕ) → Has first v ↔ (v ≡ var)) → ((v : ℕ) → Has linked v ↔ IsReached sets first v) → (v : ℕ) → Has linked v ↔ Linked c var v
 reached_is_linked c sets var first linked are one exact v = (
   λ has.
-    let reached = (exact v).0 has in
-    let from : reached.0 ≡ var = (one reached.0).0 reached.1 in
-    subst (λ (u : ℕ). Linked c u v) from ((Linked-sets c sets are reached.0 v).0 reached.2),
+      let reached = (exact v).0 has in
+      let from : reached.0 ≡ var = (one reached.0).0 reached.1 in
+      subst (λ (u : ℕ). Linked c u v) from ((Linked-sets c sets are reached.0 v).0 reached.2),
   λ chain. (exact v).1 (var, (one var).1 refl, (Linked-sets c sets are var v).1 chain),
 )
 

@@ -5,3 +5,4 @@ mod SpreadLemmas
 mod ListsLemmas
 mod SetLemmas
 mod ClassLemmas
+mod FrontLemmas

@@ -1,7 +1,5 @@
 -- Ascending lists of just the numbers of which something holds.
-use Rattle.std.proofs.Common.{◌≡◌, ◌↔◌, ℕ, ◌+◌, ◌<◌, ◌≤◌, List, [], ◌∷◌, ◌++◌, length, get_or, ◌⊎◌, inl, inr, arith, sym, subst, ap, ◌∙◌}
-use Rattle.std.specs.Prelude.{Contains, AllPairs}
-use Rattle.std.proofs.lemmas.List.{get_or_default}
+use Rattle.std.proofs.Common.{◌≡◌, ◌↔◌, ℕ, ◌+◌, ◌<◌, List, [], ◌∷◌, ◌++◌, get_or, ◌⊎◌, inl, inr, arith, subst}
 use Rattle.std.proofs.lemmas.List.Elements.{Contains-append_left, Contains-push, Contains-push_cases, Contains-get_or}
 use Rattle.std.proofs.lemmas.List.Quantifiers.{all_pairs_push}
 use Rattle.std.proofs.lemmas.Bool.Decides.{eqb_tells}
@@ -26,12 +24,12 @@ Lists-kept P count numbers so_far here = record {
   ascending = all_pairs_push ◌<◌ numbers count so_far.ascending (λ k d within. ((so_far.just (get_or numbers k d)).0 (Contains-get_or numbers k d within)).0);
   just = λ n. (
     λ has. elim (Contains-push_cases numbers count n has) [
-      inl earlier ↦ (let below = (so_far.just n).0 earlier in (let lt = below.0 in omega arith, below.1))
-    | inr last ↦ (omega arith, subst P last here)
+      | inl earlier ↦ (let below = (so_far.just n).0 earlier in (let lt = below.0 in omega arith, below.1))
+      | inr last ↦ (omega arith, subst P last here)
     ],
     λ below. elim (below_or_last n count below.0) [
-      inl earlier ↦ Contains-append_left numbers (count ∷ []) n ((so_far.just n).1 (earlier, below.1))
-    | inr last ↦ rw last (Contains-push numbers count)
+      | inl earlier ↦ Contains-append_left numbers (count ∷ []) n ((so_far.just n).1 (earlier, below.1))
+      | inr last ↦ rw last (Contains-push numbers count)
     ],
   );
 }
@@ -42,8 +40,8 @@ Lists-skipped P count numbers so_far not_here = record {
   just = λ n. (
     λ has. (let below = (so_far.just n).0 has in (let lt = below.0 in omega arith, below.1)),
     λ below. elim (below_or_last n count below.0) [
-      inl earlier ↦ (so_far.just n).1 (earlier, below.1)
-    | inr last ↦ absurd (not_here (subst P last below.1))
+      | inl earlier ↦ (so_far.just n).1 (earlier, below.1)
+      | inr last ↦ absurd (not_here (subst P last below.1))
     ],
   );
 }

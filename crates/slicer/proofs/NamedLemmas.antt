@@ -6,7 +6,7 @@ use Rattle.std.proofs.lemmas.List.{take_more, get_or_default}
 use Rattle.std.proofs.Math.ListN.{get_or-append}
 use Rattle.std.proofs.Math.Seq.{get_or-append_seam}
 use borrow.Author.Count.{below_more}
-use Rattle.std.proofs.lemmas.List.Elements.{Contains-append_left, Contains-append_right, Contains-append_cases, Contains-push, Contains-push_cases, filter_map-append}
+use Rattle.std.proofs.lemmas.List.Elements.{Contains-append_left, Contains-push, Contains-push_cases, filter_map-append}
 use Rattle.lin_model.specs.Terms.{PlainTerm}
 use Rattle.lin_model.specs.Conditions.{NamesBelow, AtomNamesBelow}
 use Rattle.lin_model.specs.declared.atom.Atom.{Atom}
@@ -49,8 +49,8 @@ sets_more atoms sets i atom set within is count so_far here k a s lt =
     let same = get_or-append sets (set ∷ []) s j (omega arith) in
     rw same (so_far j a s before))
     (
-      let there : get_or atoms i a ≡ atom = sym (is ∙ get_or_default atoms i atom a within) in
-      let last : get_or (sets ++ set ∷ []) i s ≡ set = subst (λ (n : ℕ). get_or (sets ++ set ∷ []) n s ≡ set) count (get_or-append_seam sets set [] s) in
-      rw (there, last) here
+    let there : get_or atoms i a ≡ atom = sym (is ∙ get_or_default atoms i atom a within) in
+    let last : get_or (sets ++ set ∷ []) i s ≡ set = subst (λ (n : ℕ). get_or (sets ++ set ∷ []) n s ≡ set) count (get_or-append_seam sets set [] s) in
+    rw (there, last) here
     )
     k lt

@@ -1,10 +1,9 @@
 -- What is reached as more sets are taken in, and when nothing more comes.
 use Rattle.std.proofs.Common.{◌≡◌, ℕ, ◌+◌, ◌<◌, ◌≤◌, List, length, get_or, ◌⊎◌, inl, inr, arith, sym, subst}
 use Rattle.std.specs.Prelude.{All}
-use Rattle.std.proofs.lemmas.List.{get_or_default}
 use Rattle.lin_model.proofs.Elements.{all_more}
 use Rattle.slicer.specs.declared.var_set.VarSet.{VarSet}
-use Rattle.slicer.specs.Linked.{Chain, alone, longer}
+use Rattle.slicer.specs.Linked.{alone, longer}
 use Rattle.slicer.specs.VarSets.{Has, Meet, Includes, IsReached}
 use Rattle.slicer.proofs.ChainLemmas.{kept_along}
 
@@ -27,11 +26,11 @@ pub IsAbsorbed-more : (sets : List VarSet) (reached : VarSet) (i : ℕ) (next se
 IsAbsorbed-more sets reached i next set result within is so_far takes only keeps larger = record {
   all = all_more (λ (x : VarSet). Meet x reached → Includes x result) sets i set within is (λ k d lt meet v has. keeps v (so_far.all k d lt meet v has)) (λ meet. takes (meet.0, meet.1, so_far.keeps meet.0 meet.2));
   only = λ v has. elim (only v has) [
-    inl earlier ↦ so_far.only v earlier
-  | inr both ↦ (
-      let first = so_far.only both.0.0 both.0.2 in
-      (first.0, first.1, longer first.2 (i, set, within, sym is, (both.0.1, both.1)))
-    )
+    | inl earlier ↦ so_far.only v earlier
+    | inr both ↦ (
+        let first = so_far.only both.0.0 both.0.2 in
+        (first.0, first.1, longer first.2 (i, set, within, sym is, (both.0.1, both.1)))
+        )
   ];
   keeps = λ v has. keeps v (so_far.keeps v has);
   larger = let before = so_far.larger in omega arith;

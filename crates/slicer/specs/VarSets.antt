@@ -1,5 +1,5 @@
 -- Sets of variables below 64, one bit each, and what spreads through them.
-use Rattle.std.specs.Prelude.{◌≡◌, ◌↔◌, ℕ, ◌<◌, List, length, slice_index_or, All}
+use Rattle.std.specs.Prelude.{◌≡◌, ◌↔◌, ℕ, ◌<◌, List, length, slice_index_or}
 use Rattle.std.specs.Int.{bit_at}
 use Rattle.lin_model.specs.declared.atom.Atom.{Atom}
 use Rattle.slicer.specs.declared.var_set.VarSet.{VarSet}

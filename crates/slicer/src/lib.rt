@@ -1,10 +1,13 @@
 //! Cuts a condition into slices that share no variable.
 #![tactic(auto)]
 
+mod classes;
+mod division;
 mod members;
 mod named;
 mod slice;
 mod spread;
 mod var_set;
 
+pub use division::slices;
 pub use slice::Slice;

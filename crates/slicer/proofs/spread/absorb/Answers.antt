@@ -1,4 +1,4 @@
-use Rattle.std.proofs.Common.{get_or, sym}
+use Rattle.std.proofs.Common.{get_or}
 use Rattle.std.proofs.lemmas.List.{get_or_default}
 use Rattle.slicer.specs.declared.var_set.VarSet.{VarSet}
 use Rattle.slicer.proofs.SpreadLemmas.{IsAbsorbed-none, IsAbsorbed-more}
