@@ -53,7 +53,7 @@ AreClassesBelow-seen c var slices seen so_far has = record {
 }
 
 -- the first of an ascending list is in it, and none is smaller
-first_of_ascending : (numbers : List ℕ) (n : ℕ) → AllPairs ◌<◌ numbers → Contains numbers n → Contains numbers (get_or numbers 0 0) × (get_or numbers 0 0 ≤ n)
+pub first_of_ascending : (numbers : List ℕ) (n : ℕ) → AllPairs ◌<◌ numbers → Contains numbers n → Contains numbers (get_or numbers 0 0) × (get_or numbers 0 0 ≤ n)
 first_of_ascending numbers n ascending has = (
   Contains-get_or numbers 0 0 (let within = has.1 in omega arith),
   let here : get_or numbers has.0 0 ≡ n = get_or_default numbers has.0 0 n has.1 ∙ has.2 in

@@ -6,3 +6,4 @@ mod ListsLemmas
 mod SetLemmas
 mod ClassLemmas
 mod FrontLemmas
+mod UniqueLemmas

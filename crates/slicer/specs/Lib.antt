@@ -2,3 +2,4 @@ pub mod Names
 pub mod Linked
 pub mod Slices
 pub mod VarSets
+pub mod Laws

@@ -3,6 +3,7 @@
 
 mod classes;
 mod division;
+mod laws;
 mod members;
 mod named;
 mod slice;
@@ -10,4 +11,5 @@ mod spread;
 mod var_set;
 
 pub use division::slices;
+pub use laws::slices_are_unique;
 pub use slice::Slice;

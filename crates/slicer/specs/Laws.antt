@@ -1,0 +1,8 @@
+-- What the slices of a condition keep.
+use Rattle.std.specs.Prelude.{◌≡◌, ℕ, ◌<◌, List, length, Contains, slice_index_or}
+use Rattle.lin_model.specs.Conditions.{PlainCondition, Fits}
+use Rattle.slicer.specs.Slices.{PlainSlice, AreSlices}
+
+-- a condition has one list of slices alone
+abbrev pub SlicesAreUnique : Type 0
+SlicesAreUnique = (c : PlainCondition) (one other : List PlainSlice) → AreSlices c one → AreSlices c other → one ≡ other
