@@ -1,14 +1,13 @@
 -- A condition has one list of slices alone.
-use Rattle.std.proofs.Common.{◌≡◌, ◌↔◌, ℕ, ◌+◌, ◌<◌, ◌≤◌, zero, suc, List, [], ◌∷◌, ◌++◌, length, get_or, ◌⊎◌, inl, inr, refl, arith, sym, subst, ap, ◌∙◌}
-use Rattle.std.specs.Prelude.{All, AllPairs, Contains}
-use Rattle.std.proofs.lemmas.List.{get_or_default}
+use Rattle.std.proofs.Common.{◌≡◌, ℕ, ◌<◌, zero, suc, List, [], ◌∷◌, ◌++◌, ◌⊎◌, inl, inr, refl, arith, sym, subst, ap, ◌∙◌}
+use Rattle.std.specs.Prelude.{AllPairs, Contains}
 use Rattle.std.proofs.lemmas.List.Elements.{Contains-get_or}
 use Rattle.lin_model.specs.Conditions.{PlainCondition}
-use Rattle.slicer.specs.Linked.{Linked, alone}
+use Rattle.slicer.specs.Linked.{Linked}
 use Rattle.slicer.specs.Names.{Names, NamesNothingAt}
-use Rattle.slicer.specs.Slices.{PlainSlice, Lists, IsSliceOf, AreClasses, IsFront, AreSlices, least}
+use Rattle.slicer.specs.Slices.{PlainSlice, Lists, IsSliceOf, AreClasses, IsFront, least}
 use Rattle.slicer.specs.Laws.{SlicesAreUnique}
-use Rattle.slicer.proofs.ChainLemmas.{Chain-append, Chain-turned}
+use Rattle.slicer.proofs.ChainLemmas.{Chain-turned}
 use Rattle.slicer.proofs.ClassLemmas.{first_of_ascending}
 
 Contains-cases : {X : Type 0} (x : X) (xs : List X) (n : X) → Contains (x ∷ xs) n → (x ≡ n) ⊎ Contains xs n
@@ -38,10 +37,10 @@ module _ {X : Type 0} (key : X → ℕ) where
   heads_are_same : (x : X) (xs : List X) (y : X) (ys : List X) → Ascends (x ∷ xs) → Ascends (y ∷ ys) → Contains (y ∷ ys) x → Contains (x ∷ xs) y → x ≡ y
   heads_are_same x xs y ys up_x up_y has_x has_y =
       elim (Contains-cases y ys x has_x) [
-        inl same ↦ sym same
-      | inr x_later ↦ elim (Contains-cases x xs y has_y) [
-          inl same ↦ same
-        | inr y_later ↦ absurd (let a = Ascends-head y ys x up_y x_later in let b = Ascends-head x xs y up_x y_later in omega arith)
+        | inl same ↦ sym same
+        | inr x_later ↦ elim (Contains-cases x xs y has_y) [
+          | inl same ↦ same
+          | inr y_later ↦ absurd (let a = Ascends-head y ys x up_y x_later in let b = Ascends-head x xs y up_x y_later in omega arith)
         ]
       ]
 
@@ -49,8 +48,8 @@ module _ {X : Type 0} (key : X → ℕ) where
   rest_has : (x : X) (xs : List X) (y : X) (ys : List X) → x ≡ y → Ascends (x ∷ xs) → ((n : X) → Contains (x ∷ xs) n → Contains (y ∷ ys) n) → (n : X) → Contains xs n → Contains ys n
   rest_has x xs y ys same up there n has =
       elim (Contains-cases y ys n (there n (Contains-later x xs n has))) [
-        inl first ↦ absurd (let lt = Ascends-head x xs n up has in let e = ap key (same ∙ first) in omega arith)
-      | inr later ↦ later
+        | inl first ↦ absurd (let lt = Ascends-head x xs n up has in let e = ap key (same ∙ first) in omega arith)
+        | inr later ↦ later
       ]
 
   -- two ascending lists of the same elements are equal

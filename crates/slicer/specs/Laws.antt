@@ -1,6 +1,6 @@
 -- What the slices of a condition keep.
-use Rattle.std.specs.Prelude.{◌≡◌, ℕ, ◌<◌, List, length, Contains, slice_index_or}
-use Rattle.lin_model.specs.Conditions.{PlainCondition, Fits}
+use Rattle.std.specs.Prelude.{◌≡◌, List}
+use Rattle.lin_model.specs.Conditions.{PlainCondition}
 use Rattle.slicer.specs.Slices.{PlainSlice, AreSlices}
 
 -- a condition has one list of slices alone

@@ -4,5 +4,4 @@ ghost use Rattle.slicer.specs.Laws.{SlicesAreUnique};
 /// A condition has one list of slices alone.
 pub fn slices_are_unique()
     ensures { SlicesAreUnique }
-{
-}
+{}

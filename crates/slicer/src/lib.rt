@@ -13,3 +13,6 @@ mod var_set;
 pub use division::slices;
 pub use laws::slices_are_unique;
 pub use slice::Slice;
+
+#[cfg(test)]
+mod tests;
