@@ -7,3 +7,4 @@ mod SetLemmas
 mod ClassLemmas
 mod FrontLemmas
 mod UniqueLemmas
+mod Worked
