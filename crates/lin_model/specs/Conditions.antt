@@ -1,6 +1,6 @@
 -- Conditions: which variables and atoms make one, when it holds, and sessions of them.
 use Rattle.std.specs.Prelude.{◌≢◌, ℕ, ◌<◌, ◌≤◌, List, length, ℤ, All, AllPairs, IfSome, sum_by}
-use Rattle.lin_model.specs.Terms.{PlainVar, PlainTerm}
+use Rattle.lin_model.specs.Terms.{PlainVar, PlainTerm, VarFits, ExprFits, TermFits}
 use Rattle.lin_model.specs.Truth.{AtomHolds, IsAssignment}
 use Rattle.lin_model.specs.declared.atom.Atom.{Atom}
 
@@ -22,12 +22,25 @@ pub record AtomNamesBelow (n : ℕ) (atom : Atom) : Type 0 where
 abbrev pub Differ : PlainVar → PlainVar → Type 0
 Differ a b = a.name ≢ b.name
 
--- these make a condition: 64 variables of distinct names, 256 atoms, and no variable that isn't there
+-- these make a condition: at most 64 variables of distinct names, at most 256 atoms, and no variable that isn't there
 pub record Fits (vars : List PlainVar) (atoms : List Atom) : Type 0 where
   pub few_vars : length vars ≤ 64
   pub few_atoms : length atoms ≤ 256
   pub distinct : AllPairs Differ vars
   pub in_range : All (AtomNamesBelow (length vars)) atoms
+
+-- both sides of an atom have 1 to 64 terms, none of which is too large
+pub record AtomFits (atom : Atom) : Type 0 where
+  pub left : ExprFits atom.left
+  pub right : ExprFits atom.right
+  pub left_terms : All TermFits atom.left
+  pub right_terms : All TermFits atom.right
+
+-- what plain data has to be to be a condition
+pub record IsCondition (q : PlainCondition) : Type 0 where
+  pub fits : Fits q.vars q.atoms
+  pub vars : All VarFits q.vars
+  pub atoms : All AtomFits q.atoms
 
 -- the values are an assignment, and every atom as written holds
 pub record Holds (q : PlainCondition) (values : List ℤ) : Type 0 where

@@ -2,3 +2,9 @@ pub mod Names
 pub mod Terms
 pub mod Truth
 pub mod Conditions
+pub mod Test
+pub mod Form
+pub mod KeyAtom
+pub mod AtomOrder
+pub mod Key
+pub mod Point

@@ -110,7 +110,7 @@ fn weight(var: Option<u32>, values: &[i64]) -> i64
     }
 }
 
-/// The value of one term, of size at most 2^104.
+/// The value of one term, of size at most 2^103.
 fn value_of_term(term: &Term, values: &[i64]) -> i128
     ensures value { result ≡ term_value term.now values.now }
     ensures small { unsigned_abs result ≤ 2 ^ 103 }

@@ -61,9 +61,13 @@ cmp_text Ne = codes "!="
 unfoldable pub atom_text : List PlainVar → Atom → List ℕ
 atom_text vars atom = side_text vars atom.left ++ codes " " ++ cmp_text atom.cmp ++ codes " " ++ side_text vars atom.right
 
+-- the bounds behind a name
+unfoldable pub bounds_text : ℤ → ℤ → List ℕ
+bounds_text lo hi = codes " " ++ integer lo ++ codes " " ++ integer hi
+
 -- a declaration, without the line feed
 unfoldable pub var_text : PlainVar → List ℕ
-var_text var = codes "var " ++ var.name ++ codes " " ++ integer var.lo ++ codes " " ++ integer var.hi
+var_text var = codes "var " ++ var.name ++ bounds_text var.lo var.hi
 
 -- a line feed behind
 abbrev pub line : List ℕ → List ℕ

@@ -1,5 +1,5 @@
 //! One file on a disk, and what a crash may leave of it.
-ghost use Rattle.std.specs.Prelude.{◌≡◌, ◌≤◌, ℕ, Bool, List, Option, Some, length, IsTrue, IfOk, OnOk, OnErr};
+ghost use Rattle.std.specs.Prelude.{◌≡◌, ◌≤◌, ℕ, Bool, List, Option, Some, length, IsTrue, IsSome, IfOk, OnOk, OnErr};
 ghost use Rattle.outside.specs.Counts.{HasCause};
 ghost use Rattle.outside.specs.Crash.{IsWithin, IsLengthOf, ReadsAt, WritesAt, TearsAt, Torn, Synced, SameImages, SamePast, Follows, Elapses};
 
@@ -28,7 +28,7 @@ pub trait Disk {
     /// What a crash at this moment may leave.
     ghost may_leave: { Self → List ℕ → Type 0 };
 
-    /// The moment, as a number that doesn't fall.
+    /// The moment, as a number that doesn't fall on a disk that keeps the rules.
     ghost moment: { Self → ℕ };
 
     /// What a crash at some moment from that one on might have left, during a call or between two.
@@ -59,6 +59,7 @@ pub trait Disk {
         ensures name { bound_name self.new ≡ bound_name self.old }
         ensures content { content self.new ≡ content self.old }
         ensures images { IsTrue (tells_images self.old) → SameImages (may_leave self.old) (may_leave self.new) }
+        ensures past { IsTrue (tells_images self.old) → SamePast (moment self.old) (left_since self.old) (left_since self.new) }
         ensures time { IsTrue (keeps_rules self.old) → Elapses (moment self.old) (moment self.new) (left_since self.old) (left_since self.new) (may_leave self.new) }
 
         ensures telling { tells_images self.new ≡ tells_images self.old }
@@ -74,6 +75,7 @@ pub trait Disk {
         ensures name { bound_name self.new ≡ bound_name self.old }
         ensures content { content self.new ≡ content self.old }
         ensures images { IsTrue (tells_images self.old) → SameImages (may_leave self.old) (may_leave self.new) }
+        ensures past { IsTrue (tells_images self.old) → SamePast (moment self.old) (left_since self.old) (left_since self.new) }
         ensures time { IsTrue (keeps_rules self.old) → Elapses (moment self.old) (moment self.new) (left_since self.old) (left_since self.new) (may_leave self.new) }
 
         ensures telling { tells_images self.new ≡ tells_images self.old }
@@ -104,6 +106,7 @@ pub trait Disk {
         ensures name { bound_name self.new ≡ bound_name self.old }
         ensures content { content self.new ≡ content self.old }
         ensures images { IsTrue (tells_images self.old) → OnErr result (SameImages (may_leave self.old) (may_leave self.new)) }
+        ensures past { IsTrue (tells_images self.old) → OnErr result (SamePast (moment self.old) (left_since self.old) (left_since self.new)) }
         ensures time { IsTrue (keeps_rules self.old) → Elapses (moment self.old) (moment self.new) (left_since self.old) (left_since self.new) (may_leave self.new) }
 
         ensures telling { tells_images self.new ≡ tells_images self.old }
@@ -112,6 +115,9 @@ pub trait Disk {
 
     /// A disk whose images keep the rules tells them.
     ghost rules_are_told: { (disk : Self) → IsTrue (keeps_rules disk) → IsTrue (tells_images disk) };
+
+    /// It tells its content too, so that a sync promises something.
+    ghost rules_tell_content: { (disk : Self) → IsTrue (keeps_rules disk) → IsSome (content disk) };
 
     /// This moment is one of those since an earlier one.
     ghost counts_now: { (disk : Self) (t : ℕ) (image : List ℕ) → IsTrue (keeps_rules disk) → t ≤ moment disk → may_leave disk image → left_since disk t image };

@@ -55,6 +55,8 @@ impl Disk for NoDisk {
 
     ghost rules_are_told = { λ _ told. told };
 
+    ghost rules_tell_content = { Prim.search rules };
+
     ghost counts_now = { Prim.search rules };
 
     ghost only_now = { Prim.search rules };

@@ -1,0 +1,28 @@
+-- Linear forms: what they are worth at a point, and the divisors of their coefficients.
+use Rattle.std.specs.Prelude.{ℕ, suc, max, ℤ, pos, ◌+ℤ◌, ◌*ℤ◌, List, [], ◌∷◌, unsigned_abs, slice_index_or}
+use Rattle.std.specs.Int.{◌∣◌}
+use Rattle.std.specs.List.{All}
+use Rattle.lin_model.specs.declared.form.FormTerm.{FormTerm}
+
+-- the value that a point gives to the variable of this number
+abbrev pub value_at : List ℤ → ℕ → ℤ
+value_at point v = slice_index_or point v (pos 0)
+
+-- the sum of the terms, each its coefficient times the value of its variable
+abbrev pub form_value : List FormTerm → List ℤ → ℤ
+form_value [] point = pos 0
+form_value (t ∷ ts) point = (t.coef *ℤ value_at point t.var) +ℤ form_value ts point
+
+-- one more than the greatest variable of the form, 0 where it has none
+abbrev pub form_width : List FormTerm → ℕ
+form_width [] = 0
+form_width (t ∷ ts) = max (suc t.var) (form_width ts)
+
+-- d divides each coefficient
+abbrev pub DividesAll : ℕ → List FormTerm → Type 0
+DividesAll d form = All (λ t. d ∣ unsigned_abs t.coef) form
+
+-- g is the greatest common divisor of the coefficients: it divides each, and whatever divides each divides it
+pub record IsGcdOf (form : List FormTerm) (g : ℕ) : Type 0 where
+  pub divides : DividesAll g form
+  pub greatest : (d : ℕ) → DividesAll d form → d ∣ g

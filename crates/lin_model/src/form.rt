@@ -1,0 +1,51 @@
+//! Linear forms: sums of whole multiples of numbered variables.
+
+ghost use Rattle.std.specs.Prelude.{◌≡◌};
+
+use std::marker::Model;
+
+/// One term of a form: `coef` times the variable of number `var`, counted from 0.
+#[derive(Clone, Copy, Debug, PartialEq, Eq, PartialOrd, Ord)]
+pub struct FormTerm {
+    pub var: u8,
+    pub coef: i64,
+}
+
+/// The left side of an atom, as a list of terms in any order. What a canonical form keeps besides is asked by `KeyAtom::new`.
+#[derive(Debug, Drop)]
+pub struct Form {
+    terms: Vec<FormTerm>,
+}
+
+impl Model for Form {
+    ghost use Rattle.std.specs.Prelude.{List};
+    ghost use Rattle.lin_model.specs.declared.form.FormTerm.{FormTerm};
+
+    ghost Value = { List FormTerm };
+
+    ghost view = { λ f. f.terms.items };
+}
+
+impl Form {
+    /// The form of these terms.
+    pub fn new(terms: Vec<FormTerm>) -> Form
+        ensures { result ≡ terms.items }
+    {
+        Form { terms }
+    }
+
+    /// The terms, in their order.
+    pub fn terms(&self) -> &[FormTerm]
+        ensures { result.now ≡ self.now }
+    {
+        &self.terms
+    }
+
+    /// Gives the terms back.
+    pub fn into_terms(self) -> Vec<FormTerm>
+        ensures { result.items ≡ self }
+    {
+        let Form { terms } = self;
+        terms
+    }
+}

@@ -1,0 +1,206 @@
+//! Canonical atoms, each the one spelling of a set of integer points.
+
+ghost use Rattle.std.specs.Prelude.{◌≡◌, ◌^◌, ◌<◌, ◌≤◌, ◌↔◌, ◌*ℤ◌, length, unsigned_abs, IsTrue, IsSome, IfSome};
+ghost use Rattle.std.specs.Int.{IsGcd};
+ghost use Rattle.std.specs.List.{All};
+ghost use Rattle.lin_model.specs.Form.{form_value, value_at, form_width, IsGcdOf};
+ghost use Rattle.lin_model.specs.KeyAtom.{PlainKeyAtom, AscendsBelow64, HasSmallCoefficients, BeginsPositive, IsCanonicalForm, IsCanonical, KeyAtomHolds};
+ghost use Rattle.lin_model.specs.Point.{IsPoint};
+
+use crate::form::{Form, FormTerm};
+use crate::op::Op;
+use crate::point::Point;
+use std::marker::Model;
+
+/// An atom `form op constant` in its canonical form: one to 64 terms with strictly ascending variables below 64, coefficients that aren't 0 and are below 2^40 in size, the first of them positive and their greatest common divisor 1, and a constant below 2^50 in size.
+#[derive(Debug, Drop)]
+pub struct KeyAtom {
+    form: Form,
+    op: Op,
+    constant: i64,
+}
+
+impl Model for KeyAtom {
+    ghost use Rattle.lin_model.specs.KeyAtom.{PlainKeyAtom, IsCanonical};
+
+    ghost Value = { PlainKeyAtom };
+
+    ghost view = { λ a. record { form = a.form; op = a.op; constant = a.constant } };
+
+    ghost invariant = { λ a. IsCanonical (record { form = a.form; op = a.op; constant = a.constant }) };
+}
+
+impl KeyAtom {
+    /// The atom of these parts, or None where they aren't canonical.
+    pub fn new(form: Form, op: Op, constant: i64) -> Option<KeyAtom>
+        ensures canonical { IsSome result
+            ↔ IsCanonical (record { form = form; op = op; constant = constant }) }
+        ensures value { IfSome result
+            (λ a. a ≡ record { form = form; op = op; constant = constant }) }
+    {
+        if has_canonical_form(form.terms()) && constant.unsigned_abs() < 1 << 50 {
+            Some(KeyAtom { form, op, constant })
+        } else {
+            None
+        }
+    }
+
+    /// The left side.
+    pub fn form(&self) -> &Form
+        ensures value { result.now ≡ self.now.form }
+        ensures canonical { IsCanonical self.now }
+    {
+        &self.form
+    }
+
+    /// The comparison.
+    pub fn op(&self) -> Op
+        ensures { result ≡ self.now.op }
+    {
+        self.op
+    }
+
+    /// The right side.
+    pub fn constant(&self) -> i64
+        ensures value { result ≡ self.now.constant }
+        ensures canonical { IsCanonical self.now }
+    {
+        self.constant
+    }
+
+    /// One more than the greatest variable number of the form.
+    pub fn width(&self) -> u8
+        ensures width { result ≡ form_width self.now.form }
+        ensures within { result ≤ 64 }
+        ensures canonical { IsCanonical self.now }
+    {
+        width_of(self.form().terms())
+    }
+
+    /// Whether the atom holds at the point.
+    pub fn holds(&self, point: &Point) -> bool
+        requires { form_width self.now.form ≤ length point.now }
+        ensures { IsTrue result ↔ KeyAtomHolds self.now point.now }
+    {
+        let value = value_of(self.form().terms(), point.values());
+        self.op().passes(self.constant(), value)
+    }
+}
+
+/// One more than the greatest variable number of the terms, 0 where there is none.
+fn width_of(terms: &[FormTerm]) -> u8
+    requires { All (λ t. t.var < 64) terms.now }
+    ensures width { result ≡ form_width terms.now }
+    ensures within { result ≤ 64 }
+{
+    let mut width = 0;
+    for term in terms {
+        width = width.max(term.var + 1);
+    }
+    width
+}
+
+/// The sum of the terms, each its coefficient times the value of its variable.
+fn value_of(terms: &[FormTerm], values: &[i64]) -> i128
+    requires few { length terms.now ≤ 64 }
+    requires small { All (λ t. unsigned_abs t.coef < 2 ^ 40) terms.now }
+    requires point { IsPoint values.now }
+    requires wide { form_width terms.now ≤ length values.now }
+    ensures { result ≡ form_value terms.now values.now }
+{
+    let mut sum = 0;
+    for term in terms {
+        sum += term_value(*term, values);
+    }
+    sum
+}
+
+/// A coefficient times the value of its variable, which is at most 2^72 in size.
+fn term_value(term: FormTerm, values: &[i64]) -> i128
+    requires small { unsigned_abs term.coef < 2 ^ 40 }
+    requires point { IsPoint values.now }
+    requires wide { term.var < length values.now }
+    ensures value { result ≡ term.coef *ℤ value_at values.now term.var }
+    ensures size { unsigned_abs result ≤ 2 ^ 72 }
+{
+    scaled(term.coef, values[usize::from(term.var)])
+}
+
+fn scaled(coef: i64, value: i64) -> i128
+    requires coef { unsigned_abs coef < 2 ^ 40 }
+    requires value { unsigned_abs value ≤ 2 ^ 32 }
+    ensures value { result ≡ coef *ℤ value }
+    ensures size { unsigned_abs result ≤ 2 ^ 72 }
+{
+    i128::from(coef) * i128::from(value)
+}
+
+/// Whether these are the terms of a canonical form.
+fn has_canonical_form(terms: &[FormTerm]) -> bool
+    ensures { IsTrue result ↔ IsCanonicalForm terms.now }
+{
+    if terms.is_empty() || terms.len() > 64 {
+        return false;
+    }
+    if !variables_ascend(terms) {
+        return false;
+    }
+    if !coefficients_fit(terms) {
+        return false;
+    }
+    begins_positive(terms) && is_primitive(terms)
+}
+
+/// Whether the variables ascend strictly and are below 64.
+fn variables_ascend(terms: &[FormTerm]) -> bool
+    ensures { IsTrue result ↔ AscendsBelow64 terms.now }
+{
+    terms.windows(2).all(|pair| pair[0].var < pair[1].var) && terms.iter().all(|t| t.var < 64)
+}
+
+/// Whether the coefficients aren't 0 and are below 2^40 in size.
+fn coefficients_fit(terms: &[FormTerm]) -> bool
+    ensures { IsTrue result ↔ HasSmallCoefficients terms.now }
+{
+    terms.iter().all(|t| t.coef != 0) && terms.iter().all(|t| t.coef.unsigned_abs() < 1 << 40)
+}
+
+/// Whether the first coefficient is positive.
+fn begins_positive(terms: &[FormTerm]) -> bool
+    requires { 0 < length terms.now }
+    ensures { IsTrue result ↔ BeginsPositive terms.now }
+{
+    terms[0].coef > 0
+}
+
+/// Whether no number above 1 divides every coefficient.
+fn is_primitive(terms: &[FormTerm]) -> bool
+    ensures { IsTrue result ↔ IsGcdOf terms.now 1 }
+{
+    gcd_of(terms) == 1
+}
+
+/// The greatest common divisor of the coefficients, 0 where there is none.
+fn gcd_of(terms: &[FormTerm]) -> u64
+    ensures { IsGcdOf terms.now result }
+{
+    let mut gcd = 0;
+    for term in terms {
+        gcd = gcd_of_two(gcd, term.coef.unsigned_abs());
+    }
+    gcd
+}
+
+/// Euclid's walk: the greatest common divisor stays while each number gives way to a remainder.
+fn gcd_of_two(a: u64, b: u64) -> u64
+    ensures { IsGcd a b result }
+{
+    let mut x = a;
+    let mut y = b;
+    while y != 0 {
+        let rest = x % y;
+        x = y;
+        y = rest;
+    }
+    x
+}

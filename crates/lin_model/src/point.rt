@@ -1,0 +1,62 @@
+//! Points: one whole number for each variable of a key.
+
+ghost use Rattle.std.specs.Prelude.{◌≡◌, ◌^◌, ◌≤◌, ◌↔◌, length, IsOk, IsTrue, IfOk, IfErr, unsigned_abs};
+ghost use Rattle.std.specs.List.{All};
+ghost use Rattle.lin_model.specs.Point.{IsPoint};
+
+use std::marker::Model;
+
+/// At most 64 values, each of size at most 2^32. The value at a place is that of the variable of this number.
+#[derive(Debug, Drop)]
+pub struct Point {
+    values: Vec<i64>,
+}
+
+impl Model for Point {
+    ghost use Rattle.std.specs.Prelude.{List, ℤ};
+    ghost use Rattle.lin_model.specs.Point.{IsPoint};
+
+    ghost Value = { List ℤ };
+
+    ghost view = { λ p. p.values.items };
+
+    ghost invariant = { λ p. IsPoint p.values.items };
+}
+
+impl Point {
+    /// The point of these values, or the list back where there are more than 64 or one is beyond 2^32 in size.
+    pub fn of(values: Vec<i64>) -> Result<Point, Vec<i64>>
+        ensures fits { IsOk result ↔ IsPoint values.items }
+        ensures point { IfOk result (λ point. point ≡ values.items) }
+        ensures handed_back { IfErr result (λ back. back.items ≡ values.items) }
+    {
+        if is_point(&values) {
+            Ok(Point { values })
+        } else {
+            Err(values)
+        }
+    }
+
+    /// The values, in the order of their variables.
+    pub fn values(&self) -> &[i64]
+        ensures values { result.now ≡ self.now }
+        ensures point { IsPoint self.now }
+    {
+        &self.values
+    }
+
+    /// Gives the values back.
+    pub fn into_values(self) -> Vec<i64>
+        ensures { result.items ≡ self }
+    {
+        let Point { values } = self;
+        values
+    }
+}
+
+/// Whether these values are within the limits of a point.
+fn is_point(values: &[i64]) -> bool
+    ensures { IsTrue result ↔ IsPoint values.now }
+{
+    values.len() <= 64 && values.iter().all(|n| n.unsigned_abs() <= 1 << 32)
+}
