@@ -6,3 +6,6 @@ mod steps;
 
 pub use implication::implies;
 pub use steps::Steps;
+
+#[cfg(test)]
+mod tests;
