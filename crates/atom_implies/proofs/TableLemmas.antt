@@ -1,5 +1,5 @@
 -- The table is right: it says yes exactly where each integer that passes the one test passes the other.
-use Rattle.std.proofs.Common.{◌≡◌, ◌≢◌, ℕ, nat_eq, List, ℤ, pos, ◌+ℤ◌, Bool, true, false, refl, arith, sym, subst, ap, ◌∙◌, ◌⊎◌, inl, inr}
+use Rattle.std.proofs.Common.{◌≡◌, ◌≢◌, ℕ, get_or, nat_eq, List, ℤ, pos, ◌+ℤ◌, Bool, true, false, refl, arith, sym, subst, ap, ◌∙◌, ◌⊎◌, inl, inr}
 use Rattle.std.specs.Prelude.{◌≤ℤ◌, ◌<ℤ◌, ◌-ℤ◌, int_le, int_lt, ◌&&◌, IsTrue}
 use Rattle.std.specs.Bool.{Decides}
 use Rattle.std.specs.Ordering.{int_eq}
@@ -9,9 +9,9 @@ use Rattle.lin_model.specs.declared.form.FormTerm.{FormTerm}
 use Rattle.lin_model.specs.declared.op.Op.{Op}
 use Rattle.lin_model.specs.declared.op.Op.TheVariants.{Le, Ge, Eq, Ne}
 use Rattle.lin_model.specs.Test.{passes}
-use Rattle.lin_model.specs.KeyAtom.{PlainKeyAtom}
+use Rattle.lin_model.specs.KeyAtom.{PlainKeyAtom, KeyAtomHolds}
 use Rattle.lin_model.specs.Form.{form_value}
-use Rattle.atom_implies.specs.Implies.{TestImplies, Implies, HoldsWherever}
+use Rattle.atom_implies.specs.Implies.{TestImplies, Implies, HoldsWherever, CoveredKeysHold}
 use Rattle.atom_implies.specs.Table.{table_says}
 
 Decides-int_le : (a b : ℤ) → Decides (int_le a b) (a ≤ℤ b)
@@ -151,3 +151,10 @@ Decides-same_term t u = (
       let coef = (Decides-int_eq t.coef u.coef).1 (ap (λ (x : FormTerm). x.coef) e) in
       rw (var, coef) refl,
 )
+
+-- what holds a key holds every key that it covers
+pub CoveredKeysHold-lem : CoveredKeysHold
+CoveredKeysHold-lem key query point covers holds k d within =
+    let one = covers k d within in
+    let atom_holds : KeyAtomHolds one.1 point = subst (λ (a : PlainKeyAtom). KeyAtomHolds a point) one.3 (holds one.0 one.1 one.2) in
+    HoldsWherever-implied one.1 (get_or query k d) one.4 point atom_holds

@@ -2,9 +2,11 @@
 #![tactic(auto)]
 
 mod implication;
+mod laws;
 mod steps;
 
 pub use implication::implies;
+pub use laws::covered_keys_hold;
 pub use steps::Steps;
 
 #[cfg(test)]

@@ -39,7 +39,11 @@ fn try_table<L: Ledger>(rt: &impl Abort, alloc: Global, blank: Blank) -> Result<
             for other in &OPS {
                 for d in -2..3 {
                     let same = atom(alloc, 2, *other, d)?;
-                    assert_eq!(rt; implies(&a, &same, &mut steps), follows(*op, c, *other, d), "{op:?} {c}, {other:?} {d}");
+                    assert_eq!(rt;
+                        implies(&a, &same, &mut steps),
+                        follows(*op, c, *other, d),
+                        "{op:?} {c}, {other:?} {d}"
+                    );
                     let another = atom(alloc, 3, *other, d)?;
                     assert!(rt; !implies(&a, &another, &mut steps), "another coefficient");
                     let shorter = atom(alloc, 0, *other, d)?;

@@ -11,5 +11,5 @@ IsFront-one P atoms lists some = record { vars = refl; atoms = lists; some = som
 
 pub IsFront-same : (P Q : ℕ → Type 0) → ((n : ℕ) → P n ↔ Q n) → (front : List PlainSlice) → IsFront P front → IsFront Q front
 IsFront-same P Q same [] none = λ j q. none j ((same j).1 q)
-IsFront-same P Q same (slice ∷ []) loose = record { vars = loose.vars; atoms = Lists-same P Q slice.atoms same loose.atoms; some = loose.some }
+IsFront-same P Q same (slice ∷ []) variable_free = record { vars = variable_free.vars; atoms = Lists-same P Q slice.atoms same variable_free.atoms; some = variable_free.some }
 IsFront-same P Q same (slice ∷ another ∷ more) two = two

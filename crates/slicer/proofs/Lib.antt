@@ -7,4 +7,5 @@ mod SetLemmas
 mod ClassLemmas
 mod FrontLemmas
 mod UniqueLemmas
+mod PartitionLemmas
 mod Worked

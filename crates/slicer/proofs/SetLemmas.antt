@@ -16,7 +16,7 @@ abbrev empty : VarSet
 empty = record { bits = 0 }
 
 -- the atom of a number that is in range
-atom_at : (atoms : List Atom) (k : ℕ) → k < length atoms → (atom : Atom) × (slice_get atoms k ≡ Some atom) × (get_or atoms k atom ≡ atom)
+pub atom_at : (atoms : List Atom) (k : ℕ) → k < length atoms → (atom : Atom) × (slice_get atoms k ≡ Some atom) × (get_or atoms k atom ≡ atom)
 atom_at atoms k lt = elim (slice_get_cases atoms k).1 [ inl there ↦ (there.0, there.2, there.3) | inr past ↦ absurd (omega arith) ]
 
 -- what a set tells of the atom of its number
@@ -24,11 +24,11 @@ set_tells : (atoms : List Atom) (sets : List VarSet) → AreSetsOf atoms sets �
 set_tells atoms sets are k atom d v lt is = subst (λ (x : Atom). Has (get_or sets k d) v ↔ Names x v) is (are.same k atom d lt v)
 
 -- an option that is an atom of which P holds
-IsSomeAnd-at : (o : Option Atom) (P : Atom → Type 0) → IsSomeAnd o P → (atom : Atom) × (o ≡ Some atom) × P atom
+pub IsSomeAnd-at : (o : Option Atom) (P : Atom → Type 0) → IsSomeAnd o P → (atom : Atom) × (o ≡ Some atom) × P atom
 IsSomeAnd-at None P h = absurd h
 IsSomeAnd-at (Some atom) P h = (atom, refl, h)
 
-IsSomeAnd-from : (o : Option Atom) (P : Atom → Type 0) (atom : Atom) → o ≡ Some atom → P atom → IsSomeAnd o P
+pub IsSomeAnd-from : (o : Option Atom) (P : Atom → Type 0) (atom : Atom) → o ≡ Some atom → P atom → IsSomeAnd o P
 IsSomeAnd-from o P atom is h = rw is h
 
 -- chains through the sets are chains through the atoms

@@ -10,7 +10,7 @@ use Rattle.slicer.specs.Laws.{SlicesAreUnique}
 use Rattle.slicer.proofs.ChainLemmas.{Chain-turned}
 use Rattle.slicer.proofs.ClassLemmas.{first_of_ascending}
 
-Contains-cases : {X : Type 0} (x : X) (xs : List X) (n : X) → Contains (x ∷ xs) n → (x ≡ n) ⊎ Contains xs n
+pub Contains-cases : {X : Type 0} (x : X) (xs : List X) (n : X) → Contains (x ∷ xs) n → (x ≡ n) ⊎ Contains xs n
 Contains-cases x xs n (zero, within, is) = inl is
 Contains-cases x xs n (suc k, within, is) = inr (k, omega arith, is)
 
@@ -20,7 +20,7 @@ Contains-later x xs n (k, within, is) = (suc k, omega arith, is)
 Contains-first : {X : Type 0} (x : X) (xs : List X) → Contains (x ∷ xs) x
 Contains-first x xs = (0, omega arith, refl)
 
-nothing_in_nil : {X : Type 0} (n : X) → ¬ Contains (let none : List X = [] in none) n
+pub nothing_in_nil : {X : Type 0} (n : X) → ¬ Contains (let none : List X = [] in none) n
 nothing_in_nil n has = omega (arith, has.1)
 
 module _ {X : Type 0} (key : X → ℕ) where
@@ -86,7 +86,7 @@ IsSliceOf-unique c v w s t same a b =
     slice_is s t (Lists-unique _ s.vars t.vars a.vars its.vars) (Lists-unique _ s.atoms t.atoms a.atoms its.atoms)
 
 -- slices that are joined have one least variable
-least_is_same : (c : PlainCondition) (s t : PlainSlice) → IsSliceOf c (least s) s → IsSliceOf c (least t) t → Linked c (least s) (least t) → least s ≡ least t
+pub least_is_same : (c : PlainCondition) (s t : PlainSlice) → IsSliceOf c (least s) s → IsSliceOf c (least t) t → Linked c (least s) (least t) → least s ≡ least t
 least_is_same c s t a b linked =
     let there = (first_of_ascending s.vars (least t) a.vars.ascending ((a.vars.just (least t)).1 (b.declared, linked))).1 in
     let back = (first_of_ascending t.vars (least s) b.vars.ascending ((b.vars.just (least s)).1 (a.declared, Chain-turned Names c.atoms linked))).1 in
@@ -105,6 +105,6 @@ AreClasses-has c one other a b s has =
 
 pub AreSlices-unique : SlicesAreUnique
 AreSlices-unique c one other a b =
-    let front = IsFront-unique (NamesNothingAt c.atoms) a.front b.front a.loose b.loose in
+    let front = IsFront-unique (NamesNothingAt c.atoms) a.front b.front a.variable_free b.variable_free in
     let classes = same_from_ascending least a.classes b.classes a.linked.by_least b.linked.by_least (AreClasses-has c a.classes b.classes a.linked b.linked) (AreClasses-has c b.classes a.classes b.linked a.linked) in
     a.joined ∙ ap (λ (xs : List PlainSlice). xs ++ a.classes) front ∙ ap (λ (xs : List PlainSlice). b.front ++ xs) classes ∙ sym b.joined

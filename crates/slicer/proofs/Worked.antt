@@ -1,5 +1,5 @@
 -- Small worked values of the definitions.
-use Rattle.std.proofs.Common.{◌≡◌, ℕ, List, [], ◌∷◌, Option, Some, None, pos, neg_ℤ, refl, arith}
+use Rattle.std.proofs.Common.{◌≡◌, ℕ, List, [], ◌∷◌, Some, None, pos, neg_ℤ, refl, arith}
 use Rattle.lin_model.specs.Terms.{PlainTerm}
 use Rattle.lin_model.specs.Conditions.{PlainCondition}
 use Rattle.lin_model.specs.declared.atom.Atom.{Atom}

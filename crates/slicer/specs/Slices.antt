@@ -31,7 +31,7 @@ pub record AreClasses (c : PlainCondition) (slices : List PlainSlice) : Type 0 w
   pub every : (v : ℕ) → v < length c.vars → Any (λ slice. Contains slice.vars v) slices
 
 -- the slice without variables of just the atoms of which P holds, and there are some
-pub record IsLoose (P : ℕ → Type 0) (slice : PlainSlice) : Type 0 where
+pub record IsVariableFree (P : ℕ → Type 0) (slice : PlainSlice) : Type 0 where
   pub vars : slice.vars ≡ []
   pub atoms : Lists P slice.atoms
   pub some : 0 < length slice.atoms
@@ -39,7 +39,7 @@ pub record IsLoose (P : ℕ → Type 0) (slice : PlainSlice) : Type 0 where
 -- the one slice of the atoms of which P holds, or nothing where there are none
 abbrev pub IsFront : (ℕ → Type 0) → List PlainSlice → Type 0
 IsFront P [] = (j : ℕ) → ¬ P j
-IsFront P (slice ∷ []) = IsLoose P slice
+IsFront P (slice ∷ []) = IsVariableFree P slice
 IsFront P (slice ∷ another ∷ more) = ⊥
 
 -- in front the slice of the atoms that name no variable, where there are any, and then the classes
@@ -47,5 +47,5 @@ pub record AreSlices (c : PlainCondition) (slices : List PlainSlice) : Type 0 wh
   pub front : List PlainSlice
   pub classes : List PlainSlice
   pub joined : slices ≡ front ++ classes
-  pub loose : IsFront (NamesNothingAt c.atoms) front
+  pub variable_free : IsFront (NamesNothingAt c.atoms) front
   pub linked : AreClasses c classes

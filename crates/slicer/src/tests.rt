@@ -125,7 +125,17 @@ fn slices_reckoned_by_hand(rt: HostRuntime) -> Result<(), Fail> {
     ];
     for (count, pairs, want) in rows {
         let c = condition(rt.alloc(), *count, pairs)?;
-        assert!(rt; spell(&slices(rt.alloc(), &c)?, want), "{count} variables");
+        let found = slices(rt.alloc(), &c)?;
+        assert!(rt; spell(&found, want), "{count} variables");
+        let mut again = Vec::new(rt.alloc());
+        for slice in found {
+            let (vars, atoms) = slice.into_parts();
+            again.push(Slice::new(vars, atoms))?;
+        }
+        assert!(rt;
+            spell(&again, want),
+            "{count} variables, taken apart and put together"
+        );
     }
     Ok(())
 }
