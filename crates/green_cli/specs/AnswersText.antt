@@ -1,5 +1,6 @@
 -- The text of the answers to a session.
-use Rattle.std.specs.Prelude.{ℕ, ◌+◌, List, [], ◌∷◌, ◌++◌, length, ℤ, decimal, codes, flat_map, zip}
+use Rattle.std.specs.Prelude.{ℕ, ◌+◌, List, [], ◌∷◌, ◌++◌, length, ℤ, decimal, codes, ◌≡◌}
+use Rattle.std.specs.List.{AllZip}
 use Rattle.lin_model.specs.Terms.{PlainVar}
 use Rattle.lin_model.specs.Conditions.{PlainCondition}
 use Rattle.lin_text.specs.Spelling.{line, integer}
@@ -41,6 +42,15 @@ answer_text place q answer = verdict_text q.vars answer.verdict ++ parts_text pl
 abbrev pub solved_count : List Plain → ℕ
 solved_count [] = 0
 solved_count (answer ∷ answers) = length answer.parts + solved_count answers
+
+-- the same for all executors
+abbrev pub solved_in_all : List (List Plain) → ℕ
+solved_in_all [] = 0
+solved_in_all (answers ∷ scripts) = solved_count answers + solved_in_all scripts
+
+-- there is one answer for each query of each executor
+abbrev pub HaveAnswers : List (List PlainCondition) → List (List Plain) → Type 0
+HaveAnswers session answers = AllZip (λ queries script. length queries ≡ length script) session answers
 
 -- the answers of one executor, a line each
 unfoldable pub script_text : ℕ → List PlainCondition → List Plain → List ℕ

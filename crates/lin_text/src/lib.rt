@@ -6,6 +6,7 @@ mod declaration;
 mod fault;
 mod lines;
 mod names;
+mod push;
 mod refusal;
 mod run;
 mod side;
@@ -15,6 +16,7 @@ mod write;
 
 pub use fault::{SessionFault, SessionKind, TextFault, TextKind};
 pub use lines::next_line;
+pub use push::{push_integer, push_number, push_str};
 pub use small::read_small;
 pub use token::{Token, TokenKind, next_token};
 pub use write::write_query;

@@ -1,8 +1,8 @@
 //! Writing: the plain spelling of a condition.
-ghost use Rattle.std.specs.Prelude.{◌≡◌, ◌++◌, ◌<◌, ℕ, List, Option, length, IfOk, OnOk, flat_map, take, decimal, unsigned_abs};
-ghost use Rattle.lin_model.specs.Terms.{PlainVar};
-ghost use Rattle.lin_text.specs.Spelling.{condition_text, line, var_text, atom_text, side_text, first_term, later_term, joint_of, minus_of, size_text, factor_text, name_of, cmp_text, integer, bounds_text};
+ghost use Rattle.std.specs.Prelude.{◌≡◌, ◌++◌, IfOk, OnOk, flat_map};
+ghost use Rattle.lin_text.specs.Spelling.{condition_text, line, var_text, atom_text, side_text, first_term, later_term, joint_of, size_text, factor_text, name_of, cmp_text, bounds_text};
 
+use crate::push::{minus, push_integer, push_number, push_str};
 use lin_model::{Atom, Cmp, Condition, Expr, Term, Var};
 use outside::NoMemory;
 use std::alloc::Global;
@@ -121,13 +121,6 @@ fn push_later_term(out: &mut Vec<u8>, vars: &[Var], term: &Term) -> Result<(), N
     push_size(out, vars, term.factor().unsigned_abs(), term.var())
 }
 
-#[tactic(auto, unfolding(crate::specs::Spelling::minus_of))]
-fn minus(number: i64) -> &'static str
-    ensures { result.now ≡ minus_of number }
-{
-    if number < 0 { "-" } else { "" }
-}
-
 #[tactic(auto, unfolding(crate::specs::Spelling::joint_of))]
 fn joint(factor: i64) -> &'static str
     ensures { result.now ≡ joint_of factor }
@@ -165,27 +158,5 @@ fn push_name(out: &mut Vec<u8>, vars: &[Var], var: u32) -> Result<(), NoMemory>
     if let Some(var) = vars.get(var as usize) {
         out.extend_from_slice(var.name().as_bytes())?;
     }
-    Ok(())
-}
-
-#[tactic(auto, unfolding(crate::specs::Spelling::integer))]
-fn push_integer(out: &mut Vec<u8>, number: i64) -> Result<(), NoMemory>
-    ensures { OnOk result (out.new.items ≡ out.old.items ++ integer number) }
-{
-    push_str(out, minus(number))?;
-    push_number(out, number.unsigned_abs())
-}
-
-fn push_number(out: &mut Vec<u8>, number: u64) -> Result<(), NoMemory>
-    ensures { OnOk result (out.new.items ≡ out.old.items ++ decimal number) }
-{
-    let digits = number.to_string(*out.allocator())?;
-    push_str(out, digits.as_str())
-}
-
-fn push_str(out: &mut Vec<u8>, text: &str) -> Result<(), NoMemory>
-    ensures { OnOk result (out.new.items ≡ out.old.items ++ text.now) }
-{
-    out.extend_from_slice(text.as_bytes())?;
     Ok(())
 }

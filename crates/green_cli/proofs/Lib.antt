@@ -1,0 +1,3 @@
+mod HalvingLemmas
+mod InputLemmas
+mod TextLemmas
