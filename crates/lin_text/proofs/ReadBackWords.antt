@@ -1,0 +1,189 @@
+-- Names, numbers, signs and `var` at the front of a text.
+use Rattle.std.proofs.Common.{◌≡◌, ℕ, ◌+◌, ◌-◌, ◌*◌, ◌<◌, ◌≤◌, ◌^◌, Bool, true, false, cond, not, List, [], ◌∷◌, ◌++◌, length, refl, sym, ap, subst, ◌∙◌, arith, All, IsTrue, IsFalse, decimal, nat_lt, ◌%◌, length-append}
+use Rattle.std.specs.Prelude.{◌||◌, ◌&&◌, ◌==◌, bytes_eq, codes}
+use Rattle.std.specs.List.{prefix_len}
+use Rattle.std.specs.Bool.{Decides}
+use Rattle.std.proofs.lemmas.Slice.Eq.{bytes_eq-Decides}
+use Rattle.std.proofs.lemmas.Fmt.{decimal_by_steps}
+use Rattle.std.proofs.lemmas.List.Sums.{fold-append}
+use Rattle.std.proofs.lemmas.List.Elements.{All-nil, All-cons, All-push, All-weaker, All-head, All-tail}
+use Rattle.std.proofs.lemmas.Bool.Decides.{nat_tests}
+use borrow.Author.Tests.{ltb-true}
+use Rattle.lin_model.specs.Names.{IsName, is_name_start, is_name_byte, is_digit, is_reserved, is_letter}
+use Rattle.lin_model.specs.declared.atom.Cmp.{Cmp}
+use Rattle.lin_model.specs.declared.atom.Cmp.TheVariants.{Le, Lt, Ge, Gt, Eq, Ne}
+use Rattle.lin_text.specs.Lines.{is_feed, is_in_line, is_blank}
+use Rattle.lin_text.specs.Spelling.{cmp_text}
+use Rattle.lin_text.specs.Tokens.{token_length, kind_of, token_of, symbol_length, nothing_at}
+use Rattle.lin_text.specs.declared.token.Token.{Token}
+use Rattle.lin_text.specs.declared.token.TokenKind.{TokenKind}
+use Rattle.lin_text.specs.declared.token.TokenKind.TheVariants.{Name, Number, Symbol, Bad}
+use Rattle.lin_text.specs.Pieces.{Piece, var, word, name, number, plus, minus, times, compare, name_piece, symbol_piece, piece_of, number_of, is_word, is_last}
+use Rattle.lin_text.proofs.ReadBackTokens.{Reads, Starts, Starts-token, Token-front, prefix_len-all}
+
+-- no name and no number goes on with this text
+pub record Stops (rest : List ℕ) : Type 0 where
+  pub names : prefix_len is_name_byte rest ≡ 0
+  pub digits : prefix_len is_digit rest ≡ 0
+
+pub Stops-blank : (rest : List ℕ) → Stops (32 ∷ rest)
+Stops-blank rest = record { names = refl; digits = refl }
+
+pub Stops-feed : (rest : List ℕ) → Stops (10 ∷ rest)
+Stops-feed rest = record { names = refl; digits = refl }
+
+-- the bytes that begin a name
+
+name_start-blank : (b : ℕ) → is_name_start b ≡ true → is_blank b ≡ false
+name_start-blank b e = grind (arith, nat_tests)
+
+name_start-counts : (b : ℕ) → is_name_start b ≡ true → (is_feed b || b == 35) ≡ false
+name_start-counts b e = grind (arith, nat_tests)
+
+name_byte-in_line : (b : ℕ) → is_name_byte b ≡ true → is_in_line b ≡ true
+name_byte-in_line b e = grind (arith, nat_tests)
+
+digit-blank : (b : ℕ) → is_digit b ≡ true → is_blank b ≡ false
+digit-blank b e = grind (arith, nat_tests)
+
+digit-counts : (b : ℕ) → is_digit b ≡ true → (is_feed b || b == 35) ≡ false
+digit-counts b e = grind (arith, nat_tests)
+
+digit-in_line : (b : ℕ) → is_digit b ≡ true → is_in_line b ≡ true
+digit-in_line b e = grind (arith, nat_tests)
+
+digit-name_start : (b : ℕ) → is_digit b ≡ true → is_name_start b ≡ false
+digit-name_start b e = grind (arith, nat_tests)
+
+left-false : (a b : Bool) → (a || b) ≡ false → a ≡ false
+left-false true b e = e
+left-false false b e = refl
+
+right-false : (a b : Bool) → (a || b) ≡ false → b ≡ false
+right-false true b e = absurd (cc)
+right-false false b e = e
+
+refuted : (text : List ℕ) → is_reserved text ≡ false → (b : Bool) → Decides b (text ≡ codes "var") → b ≡ false
+refuted text e true same = absurd (let no : true ≡ false = sym (ap is_reserved (same.0 refl)) ∙ e in cc)
+refuted text e false differs = refl
+
+no_var : (text : List ℕ) → is_reserved text ≡ false → bytes_eq text (codes "var") ≡ false
+no_var text e = refuted text e (bytes_eq text (codes "var")) (bytes_eq-Decides text (codes "var"))
+
+name_is : (text : List ℕ) → is_reserved text ≡ false → name_piece false text ≡ name text
+unfolding name_piece
+name_is text e =
+    ap (λ (x : Bool). cond x var (cond (is_word false text) (word text) (name text))) (no_var text e)
+    ∙ ap (λ (x : Bool). cond (x || false) (word text) (name text)) e
+
+short : (n : ℕ) → n ≤ 64 → nat_lt 64 n ≡ false
+short n le = grind (arith, nat_tests)
+
+name_kind : (b n : ℕ) → is_name_start b ≡ true → n ≤ 64 → kind_of b n ≡ Name
+name_kind b n e le =
+    ap (λ (x : Bool). cond x (cond (nat_lt 64 n) Bad Name) (cond (is_digit b) Number (cond (n == 0) Bad Symbol))) e
+    ∙ ap (λ (x : Bool). cond x Bad Name) (short n le)
+
+name-front : (b : ℕ) (bs rest : List ℕ) → IsName (b ∷ bs) → prefix_len is_name_byte rest ≡ 0 → Token-front b bs rest Name
+unfolding token_length piece_of
+name-front b bs rest is stops =
+    let begins : is_name_start b ≡ true = is.starts in
+    let more : prefix_len is_name_byte (bs ++ rest) ≡ length bs = omega (arith, prefix_len-all is_name_byte bs rest (All-tail (λ b. IsTrue (is_name_byte b)) b bs is.goes_on), stops) in
+    record {
+      no_blank = name_start-blank b begins;
+      counts = name_start-counts b begins;
+      no_feed = left-false (is_feed b) (b == 35) (name_start-counts b begins);
+      within = prefix_len-all is_in_line (b ∷ bs) rest (All-weaker (λ b. IsTrue (is_name_byte b)) (λ b. IsTrue (is_in_line b)) name_byte-in_line (b ∷ bs) is.goes_on);
+      long = ap (λ (x : Bool). cond x (1 + prefix_len is_name_byte (bs ++ rest)) (cond (is_digit b) (1 + prefix_len is_digit (bs ++ rest)) (symbol_length b (bs ++ rest)))) begins ∙ omega (arith, more);
+      shape = λ at. ap (λ (k : TokenKind). token_of k at (length (b ∷ bs))) (name_kind b (length (b ∷ bs)) begins is.short);
+      goes_on = ap is_last (name_is (b ∷ bs) is.free);
+    }
+
+-- a name
+pub Starts-name : (x rest left : List ℕ) (ps : List Piece) → IsName x → prefix_len is_name_byte rest ≡ 0 → Reads rest left ps → Starts (x ++ rest) left (name x ∷ ps)
+unfolding piece_of
+Starts-name [] rest left ps is stops r = absurd (let no : false ≡ true = is.starts in cc)
+Starts-name (b ∷ bs) rest left ps is stops r =
+    subst (λ (q : Piece). Starts (b ∷ (bs ++ rest)) left (q ∷ ps)) (name_is (b ∷ bs) is.free) (Starts-token b bs rest left Name ps (name-front b bs rest is stops) r)
+
+number_kind : (b n : ℕ) → is_digit b ≡ true → kind_of b n ≡ Number
+number_kind b n e =
+    ap (λ (x : Bool). cond x (cond (nat_lt 64 n) Bad Name) (cond (is_digit b) Number (cond (n == 0) Bad Symbol))) (digit-name_start b e)
+    ∙ ap (λ (x : Bool). cond x Number (cond (n == 0) Bad Symbol)) e
+
+number-front : (b : ℕ) (bs rest : List ℕ) → All (λ d. IsTrue (is_digit d)) (b ∷ bs) → prefix_len is_digit rest ≡ 0 → Token-front b bs rest Number
+unfolding token_length piece_of
+number-front b bs rest digits stops =
+    let begins : is_digit b ≡ true = All-head (λ d. IsTrue (is_digit d)) b bs digits in
+    let more : prefix_len is_digit (bs ++ rest) ≡ length bs = omega (arith, prefix_len-all is_digit bs rest (All-tail (λ d. IsTrue (is_digit d)) b bs digits), stops) in
+    record {
+      no_blank = digit-blank b begins;
+      counts = digit-counts b begins;
+      no_feed = left-false (is_feed b) (b == 35) (digit-counts b begins);
+      within = prefix_len-all is_in_line (b ∷ bs) rest (All-weaker (λ d. IsTrue (is_digit d)) (λ d. IsTrue (is_in_line d)) digit-in_line (b ∷ bs) digits);
+      long = ap (λ (x : Bool). cond x (1 + prefix_len is_name_byte (bs ++ rest)) (cond (is_digit b) (1 + prefix_len is_digit (bs ++ rest)) (symbol_length b (bs ++ rest)))) (digit-name_start b begins)
+        ∙ (ap (λ (x : Bool). cond x (1 + prefix_len is_digit (bs ++ rest)) (symbol_length b (bs ++ rest))) begins ∙ omega (arith, more));
+      shape = λ at. ap (λ (k : TokenKind). token_of k at (length (b ∷ bs))) (number_kind b (length (b ∷ bs)) begins);
+      goes_on = refl;
+    }
+
+digits_first : (ds rest left : List ℕ) (ps : List Piece) → 0 < length ds → All (λ d. IsTrue (is_digit d)) ds → prefix_len is_digit rest ≡ 0 → Reads rest left ps → Starts (ds ++ rest) left (number (number_of ds) ∷ ps)
+unfolding piece_of
+digits_first [] rest left ps some digits stops r = absurd (omega (arith, some))
+digits_first (b ∷ bs) rest left ps some digits stops r = Starts-token b bs rest left Number ps (number-front b bs rest digits stops) r
+
+-- digits that are this number
+record AreDigits (n : ℕ) (ds : List ℕ) : Type 0 where
+  some : 0 < length ds
+  digits : All (λ d. IsTrue (is_digit d)) ds
+  value : number_of ds ≡ n
+
+a_digit : (d : ℕ) → d < 10 → is_digit (48 + d) ≡ true
+a_digit d lt = grind (arith, nat_tests)
+
+AreDigits-decimal : (n : ℕ) → n < 2 ^ 64 → AreDigits n (decimal n)
+AreDigits-decimal n small =
+    decimal_by_steps AreDigits
+    (λ n lt. record { some = omega arith; digits = All-cons (λ d. IsTrue (is_digit d)) (48 + n) [] (a_digit n lt) (All-nil (λ d. IsTrue (is_digit d))); value = omega arith })
+    (λ n ds _ front.
+      record {
+        some = omega (arith, length-append ds ((48 + n % 10) ∷ []));
+        digits = All-push (λ d. IsTrue (is_digit d)) ds (48 + n % 10) front.digits (a_digit (n % 10) (omega arith));
+        value = fold-append (λ n digit. 10 * n + (digit - 48)) 0 ds ((48 + n % 10) ∷ []) ∙ omega (arith, front.value);
+      })
+    n small
+
+-- a number
+pub Starts-number : (n : ℕ) (rest left : List ℕ) (ps : List Piece) → n < 2 ^ 64 → prefix_len is_digit rest ≡ 0 → Reads rest left ps → Starts (decimal n ++ rest) left (number n ∷ ps)
+Starts-number n rest left ps small stops r =
+    let are = AreDigits-decimal n small in
+    subst (λ (m : ℕ). Starts (decimal n ++ rest) left (number m ∷ ps)) are.value (digits_first (decimal n) rest left ps are.some are.digits stops r)
+
+-- the signs
+
+pub Starts-minus : (rest left : List ℕ) (ps : List Piece) → Reads rest left ps → Starts (45 ∷ rest) left (minus ∷ ps)
+unfolding piece_of symbol_piece token_length
+Starts-minus rest left ps r = Starts-token 45 [] rest left Symbol ps (record { no_blank = refl; counts = refl; no_feed = refl; within = refl; long = refl; shape = λ at. refl; goes_on = refl }) r
+
+pub Starts-plus : (rest left : List ℕ) (ps : List Piece) → Reads rest left ps → Starts (43 ∷ rest) left (plus ∷ ps)
+unfolding piece_of symbol_piece token_length
+Starts-plus rest left ps r = Starts-token 43 [] rest left Symbol ps (record { no_blank = refl; counts = refl; no_feed = refl; within = refl; long = refl; shape = λ at. refl; goes_on = refl }) r
+
+pub Starts-times : (rest left : List ℕ) (ps : List Piece) → Reads rest left ps → Starts (42 ∷ rest) left (times ∷ ps)
+unfolding piece_of symbol_piece token_length
+Starts-times rest left ps r = Starts-token 42 [] rest left Symbol ps (record { no_blank = refl; counts = refl; no_feed = refl; within = refl; long = refl; shape = λ at. refl; goes_on = refl }) r
+
+-- how two sides compare
+pub Starts-compare : (cmp : Cmp) (rest left : List ℕ) (ps : List Piece) → Reads (32 ∷ rest) left ps → Starts (cmp_text cmp ++ 32 ∷ rest) left (compare cmp ∷ ps)
+unfolding piece_of symbol_piece token_length cmp_text
+Starts-compare Le rest left ps r = Starts-token 60 (61 ∷ []) (32 ∷ rest) left Symbol ps (record { no_blank = refl; counts = refl; no_feed = refl; within = omega arith; long = refl; shape = λ at. refl; goes_on = refl }) r
+Starts-compare Lt rest left ps r = Starts-token 60 [] (32 ∷ rest) left Symbol ps (record { no_blank = refl; counts = refl; no_feed = refl; within = omega arith; long = refl; shape = λ at. refl; goes_on = refl }) r
+Starts-compare Ge rest left ps r = Starts-token 62 (61 ∷ []) (32 ∷ rest) left Symbol ps (record { no_blank = refl; counts = refl; no_feed = refl; within = omega arith; long = refl; shape = λ at. refl; goes_on = refl }) r
+Starts-compare Gt rest left ps r = Starts-token 62 [] (32 ∷ rest) left Symbol ps (record { no_blank = refl; counts = refl; no_feed = refl; within = omega arith; long = refl; shape = λ at. refl; goes_on = refl }) r
+Starts-compare Eq rest left ps r = Starts-token 61 [] (32 ∷ rest) left Symbol ps (record { no_blank = refl; counts = refl; no_feed = refl; within = omega arith; long = refl; shape = λ at. refl; goes_on = refl }) r
+Starts-compare Ne rest left ps r = Starts-token 33 (61 ∷ []) (32 ∷ rest) left Symbol ps (record { no_blank = refl; counts = refl; no_feed = refl; within = omega arith; long = refl; shape = λ at. refl; goes_on = refl }) r
+
+-- what begins a declaration
+pub Starts-var : (rest left : List ℕ) (ps : List Piece) → Reads (32 ∷ rest) left ps → Starts (codes "var " ++ rest) left (var ∷ ps)
+unfolding piece_of name_piece token_length
+Starts-var rest left ps r = Starts-token 118 (97 ∷ 114 ∷ []) (32 ∷ rest) left Name ps (record { no_blank = refl; counts = refl; no_feed = refl; within = omega arith; long = omega arith; shape = λ at. refl; goes_on = refl }) r
