@@ -54,7 +54,7 @@ Starts-size vars size (Some k) rest left ps small named stops r = product size (
 
 -- the signs of a term
 
-first_sign : (b : Bool) (text rest left : List ℕ) (qs ps : List Piece) → Starts (text ++ rest) left (qs ++ ps) → Starts ((cond b (codes "-") [] ++ text) ++ rest) left ((cond b (minus ∷ []) [] ++ qs) ++ ps)
+pub first_sign : (b : Bool) (text rest left : List ℕ) (qs ps : List Piece) → Starts (text ++ rest) left (qs ++ ps) → Starts ((cond b (codes "-") [] ++ text) ++ rest) left ((cond b (minus ∷ []) [] ++ qs) ++ ps)
 first_sign true text rest left qs ps s = Starts-minus (text ++ rest) left (qs ++ ps) s.reads
 first_sign false text rest left qs ps s = s
 
