@@ -14,3 +14,8 @@ pub mod AtomLines
 pub mod VarLines
 mod SmallLemmas
 mod SpaceLemmas
+mod ReadBackTokens
+mod ReadBackWords
+mod ReadBackSides
+mod ReadBackLines
+mod ReadBack

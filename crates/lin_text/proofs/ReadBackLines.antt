@@ -1,9 +1,9 @@
 -- Declarations and comparisons on lines of their own, and what the lines mean.
-use Rattle.std.proofs.Common.{◌≡◌, ℕ, ◌+◌, ◌<◌, ◌≤◌, ◌^◌, Bool, true, false, cond, List, [], ◌∷◌, ◌++◌, length, refl, sym, ap, subst, ◌∙◌, arith, append_assoc, All, decimal, ℤ, pos, negsuc, neg_ℤ, ◌≤ℤ◌}
+use Rattle.std.proofs.Common.{◌≡◌, ℕ, ◌<◌, ◌^◌, Bool, true, false, cond, List, [], ◌∷◌, ◌++◌, length, refl, sym, subst, arith, append_assoc, All, decimal, ℤ, pos, negsuc, neg_ℤ, ◌≤ℤ◌}
 use Rattle.std.specs.Prelude.{codes, unsigned_abs}
 use Rattle.std.specs.List.{prefix_len}
 use Rattle.std.proofs.lemmas.Int.{ints}
-use Rattle.lin_model.specs.Names.{IsName, is_digit}
+use Rattle.lin_model.specs.Names.{is_digit}
 use Rattle.lin_model.specs.Terms.{PlainVar, PlainTerm, TermFits, VarFits, ExprFits}
 use Rattle.lin_model.specs.Conditions.{NamesBelow, AtomFits, AtomNamesBelow}
 use Rattle.lin_model.specs.declared.atom.Atom.{Atom}

@@ -1,5 +1,5 @@
 -- Terms and sides at the front of a text, and the terms that they are.
-use Rattle.std.proofs.Common.{◌≡◌, ℕ, ◌+◌, ◌<◌, ◌≤◌, ◌^◌, Bool, true, false, cond, List, [], ◌∷◌, ◌++◌, length, map, refl, sym, ap, subst, ◌∙◌, arith, append_assoc, All, decimal, ℤ, pos, negsuc, neg_ℤ, ◌*ℤ◌, Option, Some, None, get_or, nat_eq}
+use Rattle.std.proofs.Common.{◌≡◌, ℕ, ◌<◌, ◌≤◌, ◌^◌, Bool, true, false, cond, List, [], ◌∷◌, ◌++◌, length, map, refl, sym, ap, subst, ◌∙◌, arith, append_assoc, All, decimal, ℤ, pos, negsuc, ◌*ℤ◌, Option, Some, None, get_or}
 use Rattle.std.specs.Prelude.{◌==◌, codes, IfSome, unsigned_abs, flat_map, slice_get}
 use Rattle.std.proofs.lemmas.Int.{ints}
 use Rattle.std.proofs.lemmas.Option.{slice_get-get_or}
@@ -10,8 +10,8 @@ use Rattle.lin_model.specs.Names.{IsName}
 use Rattle.lin_model.specs.Terms.{PlainVar, PlainTerm, TermFits, VarFits, ExprFits, limit_of}
 use Rattle.lin_model.specs.Conditions.{NamesBelow}
 use Rattle.lin_text.specs.Spelling.{is_negative, minus_of, name_of, factor_text, size_text, first_term, joint_of, later_term, side_text}
-use Rattle.lin_text.specs.Pieces.{Piece, minus, plus, times, number, name}
-use Rattle.lin_text.specs.Grammar.{Quantity, constant, multiple, single, Item, Joined, Side, quantity_pieces, quantity_size, item_pieces, joint, joined_pieces, side_pieces, signed, factor_of, IsOn, IsTerm, AreTerms, IsExpr}
+use Rattle.lin_text.specs.Pieces.{Piece, minus, times, number, name}
+use Rattle.lin_text.specs.Grammar.{Quantity, constant, multiple, single, Item, Joined, Side, quantity_pieces, quantity_size, item_pieces, joint, joined_pieces, side_pieces, signed, IsOn, IsTerm, AreTerms, IsExpr}
 use Rattle.lin_text.specs.Queries.{names_of}
 use Rattle.lin_text.proofs.ReadBackTokens.{Reads, Reads-blank, Starts}
 use Rattle.lin_text.proofs.ReadBackWords.{Stops, Stops-blank, Starts-name, Starts-number, Starts-minus, Starts-plus, Starts-times}

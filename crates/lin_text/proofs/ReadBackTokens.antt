@@ -1,5 +1,5 @@
 -- A text token by token: what stands at its front, and how it is read behind that.
-use Rattle.std.proofs.Common.{◌≡◌, ℕ, ◌+◌, ◌-◌, ◌<◌, ◌≤◌, Bool, true, false, cond, List, [], ◌∷◌, ◌++◌, length, take, drop, refl, sym, ap, subst, ◌∙◌, arith, All, IsTrue, length-append}
+use Rattle.std.proofs.Common.{◌≡◌, ℕ, ◌+◌, ◌-◌, ◌<◌, Bool, false, cond, List, [], ◌∷◌, ◌++◌, length, take, drop, refl, sym, ap, subst, ◌∙◌, arith, All, IsTrue, length-append}
 use Rattle.std.specs.Prelude.{◌||◌, ◌==◌, slice_range, MatchBool}
 use Rattle.std.specs.List.{prefix_len}
 use Rattle.std.proofs.Math.Seq.{take-append_seam, drop-append_seam, drop-append-add}
@@ -7,7 +7,6 @@ use Rattle.std.proofs.lemmas.List.{drop-drop}
 use Rattle.std.proofs.lemmas.List.Elements.{All-head, All-tail}
 use Rattle.lin_text.specs.Lines.{is_feed, is_in_line, is_blank, is_skipped, ends_or_comments}
 use Rattle.lin_text.specs.Tokens.{token_from, token_here, token_of, token_length, kind_of}
-use Rattle.lin_text.specs.declared.token.Token.{Token}
 use Rattle.lin_text.specs.declared.token.TokenKind.{TokenKind}
 use Rattle.lin_text.specs.declared.token.TokenKind.TheVariants.{LineEnd}
 use Rattle.lin_text.specs.Pieces.{Piece, line_end, piece_of, PlainToken, plain_token, first_token, is_last, AreTokens, pieces}

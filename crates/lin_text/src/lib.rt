@@ -4,6 +4,7 @@
 mod class;
 mod declaration;
 mod fault;
+mod laws;
 mod lines;
 mod names;
 mod push;
@@ -15,6 +16,7 @@ mod token;
 mod write;
 
 pub use fault::{SessionFault, SessionKind, TextFault, TextKind};
+pub use laws::written_is_spelled;
 pub use lines::next_line;
 pub use push::{push_integer, push_number, push_str};
 pub use small::read_small;
