@@ -19,3 +19,5 @@ mod ReadBackWords
 mod ReadBackSides
 mod ReadBackLines
 mod ReadBack
+mod WholeTexts
+mod ReadBackWithin

@@ -83,7 +83,7 @@ Walks-atom bytes at above vars atom atoms end text left ps within e s no_word co
     }
 
 -- wherever the rest of the text stands, the lines go on so
-abbrev GoesOn : List ℕ → List ℕ → List PlainVar → List PlainVar → List Atom → ℕ → Type 0
+abbrev pub GoesOn : List ℕ → List ℕ → List PlainVar → List PlainVar → List Atom → ℕ → Type 0
 GoesOn bytes rest above vars atoms end = (at : ℕ) → at ≤ length bytes → drop at bytes ≡ rest → Walks bytes at above vars atoms end
 
 walk_atoms : (bytes rest : List ℕ) (vars : List PlainVar) (atoms : List Atom) (end : ℕ) → All VarFits vars → All AtomFits atoms → All (AtomNamesBelow (length vars)) atoms → GoesOn bytes rest vars [] [] end → GoesOn bytes (flat_map (λ atom. line (atom_text vars atom)) atoms ++ rest) vars [] atoms end
@@ -118,7 +118,7 @@ walk_condition bytes rest q end is then_rest =
     walk_vars bytes (atoms ++ rest) [] q.vars q.atoms end is.vars (walk_atoms bytes rest q.vars q.atoms end is.vars is.atoms is.fits.in_range then_rest) at within (e ∙ append_assoc vars atoms rest)
 
 -- the text ends
-at_end : (bytes : List ℕ) (vars : List PlainVar) → GoesOn bytes [] vars [] [] (length bytes)
+pub at_end : (bytes : List ℕ) (vars : List PlainVar) → GoesOn bytes [] vars [] [] (length bytes)
 at_end bytes vars at within e =
     let all : at ≡ length bytes = omega (arith, ap length e, length-drop at bytes) in
     record { lines = []; are = line_from-end bytes at (omega arith) ∙ all; meant = (refl, refl); ends = refl }

@@ -92,8 +92,8 @@ Reads-all vars (term ∷ terms) rest left ps can stops r =
     let more : List Piece = flat_map joined_pieces (map (later_item vars) terms) in
     subst (λ (text : List ℕ). Reads text left ((joined_pieces (later_item vars term) ++ more) ++ ps)) (sym (append_assoc (later_term vars term) texts rest))
     (subst (λ (qs : List Piece). Reads (later_term vars term ++ (texts ++ rest)) left qs) (sym (append_assoc (joined_pieces (later_item vars term)) more ps))
-      (Reads-later vars term (texts ++ rest) left (more ++ ps) (All-head (CanSpell vars) term terms can) (Stops-later vars terms rest stops)
-        (Reads-all vars terms rest left ps (All-tail (CanSpell vars) term terms can) stops r)))
+    (Reads-later vars term (texts ++ rest) left (more ++ ps) (All-head (CanSpell vars) term terms can) (Stops-later vars terms rest stops)
+    (Reads-all vars terms rest left ps (All-tail (CanSpell vars) term terms can) stops r)))
 
 -- a side
 pub Starts-side : (vars : List PlainVar) (term : PlainTerm) (terms : List PlainTerm) (rest left : List ℕ) (ps : List Piece) → All (CanSpell vars) (term ∷ terms) → Stops rest → Reads rest left ps → Starts (side_text vars (term ∷ terms) ++ rest) left (side_pieces (shown_side vars term terms) ++ ps)
@@ -103,8 +103,8 @@ Starts-side vars term terms rest left ps can stops r =
     let more : List Piece = flat_map joined_pieces (map (later_item vars) terms) in
     Starts-text (first_term vars term ++ (texts ++ rest)) ((first_term vars term ++ texts) ++ rest) left ((item_pieces (first_item vars term) ++ more) ++ ps) (sym (append_assoc (first_term vars term) texts rest))
     (subst (λ (qs : List Piece). Starts (first_term vars term ++ (texts ++ rest)) left qs) (sym (append_assoc (item_pieces (first_item vars term)) more ps))
-      (Starts-first vars term (texts ++ rest) left (more ++ ps) (All-head (CanSpell vars) term terms can) (Stops-later vars terms rest stops)
-        (Reads-all vars terms rest left ps (All-tail (CanSpell vars) term terms can) stops r)))
+    (Starts-first vars term (texts ++ rest) left (more ++ ps) (All-head (CanSpell vars) term terms can) (Stops-later vars terms rest stops)
+    (Reads-all vars terms rest left ps (All-tail (CanSpell vars) term terms can) stops r)))
 
 -- what the items mean
 
@@ -112,20 +112,20 @@ shown_size-is : (vars : List PlainVar) (size : ℕ) (v : Option ℕ) → quantit
 shown_size-is vars size None = refl
 shown_size-is vars size (Some k) = by_one (size == 1) refl
   where
-  by_one : (b : Bool) → (size == 1) ≡ b → quantity_size (cond b (single (name_of vars k)) (multiple size (name_of vars k))) ≡ size
-  by_one true e = sym (eqb-true size 1 e)
-  by_one false e = refl
+    by_one : (b : Bool) → (size == 1) ≡ b → quantity_size (cond b (single (name_of vars k)) (multiple size (name_of vars k))) ≡ size
+    by_one true e = sym (eqb-true size 1 e)
+    by_one false e = refl
 
 IsOn-shown : (vars : List PlainVar) (size : ℕ) (v : Option ℕ) → IfSome v (λ k. k < length vars) → IsOn (names_of vars) (shown_size vars size v) v
 IsOn-shown vars size None below = refl
 IsOn-shown vars size (Some k) below = by_one (size == 1)
   where
-  there : slice_get (names_of vars) k ≡ Some (name_of vars k)
-  there = slice_get-get_or (names_of vars) k [] (omega (arith, below, length-map vars (λ (v : PlainVar). v.name)))
+    there : slice_get (names_of vars) k ≡ Some (name_of vars k)
+    there = slice_get-get_or (names_of vars) k [] (omega (arith, below, length-map vars (λ (v : PlainVar). v.name)))
 
-  by_one : (b : Bool) → IsOn (names_of vars) (cond b (single (name_of vars k)) (multiple size (name_of vars k))) (Some k)
-  by_one true = (k, refl, there)
-  by_one false = (k, refl, there)
+    by_one : (b : Bool) → IsOn (names_of vars) (cond b (single (name_of vars k)) (multiple size (name_of vars k))) (Some k)
+    by_one true = (k, refl, there)
+    by_one false = (k, refl, there)
 
 first_factor : (z : ℤ) → z ≡ signed false 1 *ℤ signed (is_negative z) (unsigned_abs z)
 first_factor (pos n) = omega (arith, ints)

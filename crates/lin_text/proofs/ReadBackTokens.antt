@@ -63,9 +63,9 @@ unfolding token_here plain_token piece_of
 Reads-feed left =
     record {
       read = λ bytes at e.
-      let t : PlainToken = record { from = at; to = at; piece = line_end } in
-      let is : first_token false bytes at ≡ t = ap (plain_token false bytes) (token_from-here bytes at 10 left e refl) in
-      record { tokens = t ∷ []; are = (sym is, refl); shown = refl };
+          let t : PlainToken = record { from = at; to = at; piece = line_end } in
+          let is : first_token false bytes at ≡ t = ap (plain_token false bytes) (token_from-here bytes at 10 left e refl) in
+          record { tokens = t ∷ []; are = (sym is, refl); shown = refl };
       long = omega arith;
       below = refl;
     }
@@ -79,9 +79,9 @@ pub Reads-blank : (text left : List ℕ) (ps : List Piece) → Reads text left p
 Reads-blank text left ps r =
     record {
       read = λ bytes at e.
-      let f : drop (at + 1) bytes ≡ text = drop-behind bytes at (32 ∷ []) text e in
-      let next = r.read bytes (at + 1) f in
-      record { tokens = next.tokens; are = blank_before bytes at ps (token_from-blank bytes at text e f) next.tokens next.are; shown = next.shown };
+          let f : drop (at + 1) bytes ≡ text = drop-behind bytes at (32 ∷ []) text e in
+          let next = r.read bytes (at + 1) f in
+          record { tokens = next.tokens; are = blank_before bytes at ps (token_from-blank bytes at text e f) next.tokens next.are; shown = next.shown };
       long = omega (arith, r.long);
       below = ap (λ (n : ℕ). drop n (32 ∷ text)) (let n : (1 + prefix_len is_in_line text) + 1 ≡ 1 + (prefix_len is_in_line text + 1) = omega arith in n) ∙ (drop-append-add (32 ∷ []) text (prefix_len is_in_line text + 1) ∙ r.below);
     }
@@ -113,15 +113,15 @@ Starts-token b bs rest left kind ps front r =
     record {
       reads = record {
         read = λ bytes at e.
-        let n : ℕ = length (b ∷ bs) in
-        let t : PlainToken = record { from = at; to = at + n; piece = piece_of false kind (b ∷ bs) } in
-        let is : first_token false bytes at ≡ t = ap (plain_token false bytes) (token_from-here bytes at b (bs ++ rest) e front.no_blank ∙ token_here-front b bs rest kind front at) ∙ ap (λ (text : List ℕ). record { from = at; to = at + n; piece = piece_of false kind text }) (slice_range-front bytes at (b ∷ bs) rest e) in
-        let next = r.read bytes (at + n) (drop-behind bytes at (b ∷ bs) rest e) in
-        record {
-          tokens = t ∷ next.tokens;
-          are = (sym is, subst (λ (x : Bool). MatchBool x (next.tokens ≡ []) (AreTokens false bytes (at + n) next.tokens)) (sym front.goes_on) next.are);
-          shown = ap (λ (qs : List Piece). piece_of false kind (b ∷ bs) ∷ qs) next.shown;
-        };
+            let n : ℕ = length (b ∷ bs) in
+            let t : PlainToken = record { from = at; to = at + n; piece = piece_of false kind (b ∷ bs) } in
+            let is : first_token false bytes at ≡ t = ap (plain_token false bytes) (token_from-here bytes at b (bs ++ rest) e front.no_blank ∙ token_here-front b bs rest kind front at) ∙ ap (λ (text : List ℕ). record { from = at; to = at + n; piece = piece_of false kind text }) (slice_range-front bytes at (b ∷ bs) rest e) in
+            let next = r.read bytes (at + n) (drop-behind bytes at (b ∷ bs) rest e) in
+            record {
+              tokens = t ∷ next.tokens;
+              are = (sym is, subst (λ (x : Bool). MatchBool x (next.tokens ≡ []) (AreTokens false bytes (at + n) next.tokens)) (sym front.goes_on) next.are);
+              shown = ap (λ (qs : List Piece). piece_of false kind (b ∷ bs) ∷ qs) next.shown;
+            };
         long = omega (arith, r.long, front.within, length-append (b ∷ bs) rest);
         below = ap (λ (n : ℕ). drop n (b ∷ (bs ++ rest))) (let n : prefix_len is_in_line (b ∷ (bs ++ rest)) + 1 ≡ length (b ∷ bs) + (prefix_len is_in_line rest + 1) = omega (arith, front.within) in n) ∙ (drop-append-add (b ∷ bs) rest (prefix_len is_in_line rest + 1) ∙ r.below);
       };

@@ -120,7 +120,7 @@ number-front b bs rest digits stops =
       no_feed = left-false (is_feed b) (b == 35) (digit-counts b begins);
       within = prefix_len-all is_in_line (b ∷ bs) rest (All-weaker (λ d. IsTrue (is_digit d)) (λ d. IsTrue (is_in_line d)) digit-in_line (b ∷ bs) digits);
       long = ap (λ (x : Bool). cond x (1 + prefix_len is_name_byte (bs ++ rest)) (cond (is_digit b) (1 + prefix_len is_digit (bs ++ rest)) (symbol_length b (bs ++ rest)))) (digit-name_start b begins)
-        ∙ (ap (λ (x : Bool). cond x (1 + prefix_len is_digit (bs ++ rest)) (symbol_length b (bs ++ rest))) begins ∙ omega (arith, more));
+          ∙ (ap (λ (x : Bool). cond x (1 + prefix_len is_digit (bs ++ rest)) (symbol_length b (bs ++ rest))) begins ∙ omega (arith, more));
       shape = λ at. ap (λ (k : TokenKind). token_of k at (length (b ∷ bs))) (number_kind b (length (b ∷ bs)) begins);
       goes_on = refl;
     }
@@ -144,11 +144,11 @@ AreDigits-decimal n small =
     decimal_by_steps AreDigits
     (λ n lt. record { some = omega arith; digits = All-cons (λ d. IsTrue (is_digit d)) (48 + n) [] (a_digit n lt) (All-nil (λ d. IsTrue (is_digit d))); value = omega arith })
     (λ n ds _ front.
-      record {
-        some = omega (arith, length-append ds ((48 + n % 10) ∷ []));
-        digits = All-push (λ d. IsTrue (is_digit d)) ds (48 + n % 10) front.digits (a_digit (n % 10) (omega arith));
-        value = fold-append (λ n digit. 10 * n + (digit - 48)) 0 ds ((48 + n % 10) ∷ []) ∙ omega (arith, front.value);
-      })
+    record {
+      some = omega (arith, length-append ds ((48 + n % 10) ∷ []));
+      digits = All-push (λ d. IsTrue (is_digit d)) ds (48 + n % 10) front.digits (a_digit (n % 10) (omega arith));
+      value = fold-append (λ n digit. 10 * n + (digit - 48)) 0 ds ((48 + n % 10) ∷ []) ∙ omega (arith, front.value);
+    })
     n small
 
 -- a number

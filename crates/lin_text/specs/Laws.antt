@@ -1,9 +1,19 @@
 -- Laws of the texts of conditions.
-use Rattle.std.specs.Prelude.{false, length}
+use Rattle.std.specs.Prelude.{◌≡◌, ℕ, ◌+◌, false, ◌⊎◌, List, [], ◌++◌, length}
 use Rattle.lin_model.specs.Conditions.{PlainCondition, IsCondition}
 use Rattle.lin_text.specs.Spelling.{condition_text}
+use Rattle.lin_text.specs.Pieces.{word, first_token}
 use Rattle.lin_text.specs.Queries.{Spells}
 
 -- the plain spelling of a condition is spelled as that condition, to its end
 abbrev pub WrittenIsSpelled : Type 0
 WrittenIsSpelled = (q : PlainCondition) → IsCondition q → Spells false (condition_text q) 0 q (length (condition_text q))
+
+-- nothing is there, or the first line begins with a reserved word other than `var`
+abbrev pub EndsQuery : List ℕ → Type 0
+EndsQuery rest = (rest ≡ []) ⊎ ((w : List ℕ) × ((first_token false rest 0).piece ≡ word w))
+
+-- so it is within a text, where the query ends behind it
+abbrev pub WrittenIsSpelledWithin : Type 0
+WrittenIsSpelledWithin =
+    (front rest : List ℕ) (q : PlainCondition) → IsCondition q → EndsQuery rest → Spells false (front ++ (condition_text q ++ rest)) (length front) q (length front + length (condition_text q))

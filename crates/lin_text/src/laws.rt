@@ -1,7 +1,12 @@
 //! Laws of the texts of conditions, each the contract of a function that does nothing.
-ghost use Rattle.lin_text.specs.Laws.{WrittenIsSpelled};
+ghost use Rattle.lin_text.specs.Laws.{WrittenIsSpelled, WrittenIsSpelledWithin};
 
 /// What is written for a condition is spelled as that condition, in the sense of the grammar.
 pub fn written_is_spelled()
     ensures { WrittenIsSpelled }
+{}
+
+/// So it is within a text, where nothing follows it, or a line that begins with a reserved word other than `var`.
+pub fn written_is_spelled_within()
+    ensures { WrittenIsSpelledWithin }
 {}

@@ -16,7 +16,7 @@ mod token;
 mod write;
 
 pub use fault::{SessionFault, SessionKind, TextFault, TextKind};
-pub use laws::written_is_spelled;
+pub use laws::{written_is_spelled, written_is_spelled_within};
 pub use lines::next_line;
 pub use push::{push_integer, push_number, push_str};
 pub use small::read_small;
