@@ -1,5 +1,6 @@
 pub mod LineLemmas
 pub mod WordLemmas
+pub mod NamedLemmas
 pub mod NameLemmas
 pub mod SideLemmas
 pub mod Places

@@ -1,12 +1,14 @@
 //! A line that declares a variable: its name and its bounds.
-ghost use Rattle.std.specs.Prelude.{◌≡◌, ◌≤◌, ◌^◌, length, IfOk, pos, neg_ℤ, ◌≤ℤ◌};
-ghost use Rattle.lin_text.specs.Reading.{bound_of, integer_at, free_name_at, range_at, end_at, declaration_at};
+ghost use Rattle.std.specs.Prelude.{◌≡◌, ◌≤◌, ◌^◌, length, slice_range, IfOk, pos, neg_ℤ, ◌≤ℤ◌};
+ghost use Rattle.lin_model.specs.Names.{IsName};
+ghost use Rattle.lin_text.specs.Reading.{bound_of, integer_at, free_name_at, range_at, end_at, declaration_at, variable_at, Gives};
 
 use crate::class::{Class, Lexeme, next_lexeme};
 use crate::fault::TextKind;
 use crate::names::Names;
-use crate::refusal::{Fault, fault_at, refusal};
-use lin_model::MAX_BOUND;
+use crate::refusal::{Fault, ReadError, fault_at, refusal};
+use lin_model::{MAX_BOUND, Name, Var};
+use std::alloc::Global;
 
 /// The number of a bound, and the place behind it.
 #[tactic(auto, unfolding(crate::specs::Reading::bound_of))]
@@ -58,6 +60,7 @@ fn read_free_name(
     ensures exact { result ≡ free_name_at in_proof bytes.now names.now at }
     ensures within { IfOk result (λ r. r.1 ≤ length bytes.now) }
     ensures order { IfOk result (λ r. r.0 ≤ r.1) }
+    ensures name { IfOk result (λ r. IsName (slice_range bytes.now r.0 r.1)) }
 {
     let token = next_lexeme(bytes, in_proof, at);
     match token.class {
@@ -106,7 +109,7 @@ pub fn read_end(bytes: &[u8], in_proof: bool, at: usize) -> Result<(), Fault>
 /// A declaration behind the word `var`, to the end of the line: from which place to which its name
 /// stands, and its bounds.
 #[tactic(auto, unfolding(crate::specs::Reading::declaration_at))]
-pub fn read_declaration(
+fn read_declaration(
     bytes: &[u8],
     in_proof: bool,
     names: &Names,
@@ -116,6 +119,7 @@ pub fn read_declaration(
     ensures exact { result ≡ declaration_at in_proof bytes.now names.now at }
     ensures within { IfOk result (λ r. r.1 ≤ length bytes.now) }
     ensures places { IfOk result (λ r. r.0 ≤ r.1) }
+    ensures name { IfOk result (λ r. IsName (slice_range bytes.now r.0 r.1)) }
     ensures low { IfOk result (λ r. neg_ℤ (pos (2 ^ 31)) ≤ℤ r.2) }
     ensures order { IfOk result (λ r. r.2 ≤ℤ r.3) }
     ensures high { IfOk result (λ r. r.3 ≤ℤ pos (2 ^ 31)) }
@@ -124,4 +128,21 @@ pub fn read_declaration(
     let (lo, hi, behind) = read_range(bytes, in_proof, to)?;
     read_end(bytes, in_proof, behind)?;
     Ok((from, to, lo, hi))
+}
+
+/// The variable that a line declares behind the word `var`.
+#[tactic(auto, unfolding(crate::specs::Reading::variable_at))]
+pub fn read_variable(
+    alloc: Global,
+    bytes: &[u8],
+    in_proof: bool,
+    names: &Names,
+    at: usize,
+) -> Result<Var, ReadError>
+    requires { at ≤ length bytes.now }
+    ensures { Gives result (variable_at in_proof bytes.now names.now at) }
+{
+    let (from, to, lo, hi) = read_declaration(bytes, in_proof, names, at)?;
+    let name = Vec::from_slice(alloc, &bytes[from..to])?;
+    Ok(Var::new(Name::new(name), lo, hi))
 }
