@@ -206,10 +206,18 @@ begins_atom_class _ = true
 unfoldable pub full_query_at : Lexeme → Fault
 full_query_at l = if begins_atom_class l.class then fault_at TooManyAtoms l.from else refusal l
 
+-- what is declared and compared with one variable more, behind the word
+unfoldable pub var_line_at : Bool → List ℕ → PlainCondition → Lexeme → Result PlainCondition Fault
+var_line_at p bytes q word =
+    if length q.vars == 64 then Err (fault_at TooManyVars word.from) else
+    (variable_at p bytes (names_of q.vars) word.to >>= λ v. Ok (record { vars = q.vars ++ v ∷ []; atoms = q.atoms }))
+
+-- what is declared and compared with one atom more, which begins with the token
+unfoldable pub atom_line_at : Bool → List ℕ → PlainCondition → Lexeme → ℕ → Result PlainCondition Fault
+atom_line_at p bytes q first start =
+    if length q.atoms == 256 then Err (full_query_at first) else
+    (atom_at p bytes (names_of q.vars) start >>= λ a. Ok (record { vars = q.vars; atoms = q.atoms ++ a ∷ [] }))
+
 -- what is declared and compared with one line more, which begins with the token
-unfoldable pub line_at : Bool → List ℕ → PlainCondition → ℕ → Result PlainCondition Fault
-line_at p bytes q start =
-    let first = lexeme_at p bytes start in
-    if is_var_class first.class
-    then (if length q.vars == 64 then Err (fault_at TooManyVars first.from) else (variable_at p bytes (names_of q.vars) first.to >>= λ v. Ok (record { vars = q.vars ++ v ∷ []; atoms = q.atoms })))
-    else (if length q.atoms == 256 then Err (full_query_at first) else (atom_at p bytes (names_of q.vars) start >>= λ a. Ok (record { vars = q.vars; atoms = q.atoms ++ a ∷ [] })))
+unfoldable pub line_at : Bool → List ℕ → PlainCondition → Lexeme → ℕ → Result PlainCondition Fault
+line_at p bytes q first start = if is_var_class first.class then var_line_at p bytes q first else atom_line_at p bytes q first start

@@ -1,5 +1,5 @@
 //! A line that declares a variable: its name and its bounds.
-ghost use Rattle.std.specs.Prelude.{◌≡◌, ◌≤◌, ◌^◌, length, slice_range, IfOk, pos, neg_ℤ, ◌≤ℤ◌};
+ghost use Rattle.std.specs.Prelude.{◌≡◌, ◌≤◌, ◌^◌, length, slice_range, position, bytes_eq, None, IfOk, pos, neg_ℤ, ◌≤ℤ◌};
 ghost use Rattle.lin_model.specs.Names.{IsName};
 ghost use Rattle.lin_text.specs.Reading.{bound_of, integer_at, free_name_at, range_at, end_at, declaration_at, variable_at, Gives};
 
@@ -61,14 +61,16 @@ fn read_free_name(
     ensures within { IfOk result (λ r. r.1 ≤ length bytes.now) }
     ensures order { IfOk result (λ r. r.0 ≤ r.1) }
     ensures name { IfOk result (λ r. IsName (slice_range bytes.now r.0 r.1)) }
+    ensures free { IfOk result (λ r. position (bytes_eq (slice_range bytes.now r.0 r.1)) names.now ≡ None) }
 {
     let token = next_lexeme(bytes, in_proof, at);
     match token.class {
         Class::Name => {
-            if names.find(&bytes[token.from..token.to]).is_some() {
-                return Err(fault_at(TextKind::NameTwice, token.from));
+            let found = names.find(&bytes[token.from..token.to]);
+            match found {
+                Some(_) => Err(fault_at(TextKind::NameTwice, token.from)),
+                None => Ok((token.from, token.to)),
             }
-            Ok((token.from, token.to))
         }
         _ => Err(refusal(token)),
     }
@@ -120,6 +122,7 @@ fn read_declaration(
     ensures within { IfOk result (λ r. r.1 ≤ length bytes.now) }
     ensures places { IfOk result (λ r. r.0 ≤ r.1) }
     ensures name { IfOk result (λ r. IsName (slice_range bytes.now r.0 r.1)) }
+    ensures free { IfOk result (λ r. position (bytes_eq (slice_range bytes.now r.0 r.1)) names.now ≡ None) }
     ensures low { IfOk result (λ r. neg_ℤ (pos (2 ^ 31)) ≤ℤ r.2) }
     ensures order { IfOk result (λ r. r.2 ≤ℤ r.3) }
     ensures high { IfOk result (λ r. r.3 ≤ℤ pos (2 ^ 31)) }
@@ -140,7 +143,8 @@ pub fn read_variable(
     at: usize,
 ) -> Result<Var, ReadError>
     requires { at ≤ length bytes.now }
-    ensures { Gives result (variable_at in_proof bytes.now names.now at) }
+    ensures exact { Gives result (variable_at in_proof bytes.now names.now at) }
+    ensures free { IfOk result (λ var. position (bytes_eq var.name) names.now ≡ None) }
 {
     let (from, to, lo, hi) = read_declaration(bytes, in_proof, names, at)?;
     let name = Vec::from_slice(alloc, &bytes[from..to])?;

@@ -3,6 +3,7 @@
 
 mod class;
 mod declaration;
+mod draft;
 mod fault;
 mod lines;
 mod names;
