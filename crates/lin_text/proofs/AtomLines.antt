@@ -94,7 +94,7 @@ module _ (p : Bool) (bytes : List ℕ) (above : List PlainLine) (front : List Pi
   IsSign c to ps s = (ps ≡ compare c ∷ []) × (s ≡ item false 0)
 
   sign_room : IsRoom above front t.token.piece
-  sign_room = record { vars = λ e _. after-some false true k bare front here e; atoms = λ e _. after-some false true k bare front here e }
+  sign_room = record { vars = λ e _. after-some false true k bare front here e; atoms = λ e _ _. after-some false true k bare front here e }
 
   sign_by : (q : Piece) → t.token.piece ≡ q → Outcome p bytes above false front ts IsSign (comparison_by (class_of q) (shown t.token))
   sign_by (compare c) is =
@@ -135,7 +135,7 @@ pub atom_out : (p : Bool) (bytes : List ℕ) (above : List PlainLine) (at : ℕ)
 unfolding atom_at
 atom_out p bytes above at ts t no_var few =
     LineOut-then p bytes above false [] at ts (IsWholeSide p bytes (declared_names above) true) (λ atom ps. Compares (declared_names above) ps atom) (side_at p bytes (declared_names above) at) _
-    (side_out p bytes above [] at ts true At-start t (record { vars = λ _ e. no_var e; atoms = λ _ e. few e }))
+    (side_out p bytes above [] at ts true At-start t (record { vars = λ _ e. no_var e; atoms = λ _ _ e. few e }))
     (λ ls to1 lps s1 left place1 rest1 are1.
       let t1 = token_of p bytes to1 rest1 are1 in
       let here1 : At false ([] ++ lps) (after true left.1 left.2) = subst (λ (u : Place). At false ([] ++ lps) u) left.5 place1 in
@@ -150,7 +150,7 @@ atom_out p bytes above at ts t no_var few =
           let t3 = token_of p bytes to3 rest3 are3 in
           let front3 = (([] ++ lps) ++ cps) ++ rps in
           let here3 : At false front3 (after false right.1 right.2) = subst (λ (u : Place). At false front3 u) right.5 place3 in
-          end_out p bytes above false front3 to3 rest3 t3 (record { vars = λ e _. after-some false false right.1 right.2 front3 here3 e; atoms = λ e _. after-some false false right.1 right.2 front3 here3 e })
+          end_out p bytes above false front3 to3 rest3 t3 (record { vars = λ e _. after-some false false right.1 right.2 front3 here3 e; atoms = λ e _ _. after-some false false right.1 right.2 front3 here3 e })
           (after false right.1 right.2) here3 (ends right.1 right.2)
           (λ no_end. right_ends right.1 right.2 t3.token.piece (ap (λ (x : Lexeme). is_joint x.class) (sym t3.shows) ∙ right.7) (λ b. ap (λ (x : Lexeme). is_times x.class) (sym t3.shows) ∙ right.6 b) no_end)
           (λ l e. cc)
@@ -162,4 +162,4 @@ atom_out p bytes above at ts t no_var few =
   ends k false = refl
   sign_behind : (above : List PlainLine) (front cps : List Piece) (c : Cmp) (q : Piece) → cps ≡ compare c ∷ [] → IsRoom above (front ++ cps) q
   sign_behind above front cps c q e =
-      record { vars = λ f _. not-nil front (compare c) (ap (λ (qs : List Piece). front ++ qs) (sym e) ∙ f); atoms = λ f _. not-nil front (compare c) (ap (λ (qs : List Piece). front ++ qs) (sym e) ∙ f) }
+      record { vars = λ f _. not-nil front (compare c) (ap (λ (qs : List Piece). front ++ qs) (sym e) ∙ f); atoms = λ f _ _. not-nil front (compare c) (ap (λ (qs : List Piece). front ++ qs) (sym e) ∙ f) }

@@ -1,4 +1,5 @@
 pub mod LineLemmas
+pub mod Positions
 pub mod WordLemmas
 pub mod NamedLemmas
 pub mod NameLemmas
@@ -13,5 +14,6 @@ pub mod Items
 pub mod Sides
 pub mod AtomLines
 pub mod VarLines
+pub mod QueryLines
 mod SmallLemmas
 mod SpaceLemmas

@@ -13,7 +13,7 @@ use Rattle.lin_text.specs.declared.class.Class.TheVariants.{Name}
 use Rattle.lin_text.specs.declared.class.Lexeme.{Lexeme}
 use Rattle.lin_text.specs.Lines.{is_feed, is_blank}
 use Rattle.lin_text.specs.Tokens.{token_length, symbol_length, kind_of, nothing_at, token_of, token_here, token_from}
-use Rattle.lin_text.specs.Pieces.{Piece, var, word, name, plus, minus, times, compare, piece_of, name_piece, symbol_piece, comparison_of, is_word, is_claim_word, plain_token, first_token}
+use Rattle.lin_text.specs.Pieces.{Piece, var, word, name, plus, minus, times, compare, piece_of, name_piece, symbol_piece, comparison_of, is_word, is_claim_word, plain_token, first_token, PlainToken}
 use Rattle.lin_text.specs.Classes.{class_of, shown}
 
 place_more : (p : ℕ → Bool) (x : ℕ) (ys : List ℕ) (j d : ℕ) → p x ≡ true → ((i e : ℕ) → i < length ys → IsTrue (p (get_or ys i e))) → j < length (x ∷ ys) → IsTrue (p (get_or (x ∷ ys) j d))
@@ -97,3 +97,11 @@ unfolding Goal token_from
 named-token p bytes at t c is shows e =
     let from = at + prefix_len is_blank (drop at bytes) in
     subst (λ (u : Token). Goal p bytes u) (sym is) (here p bytes from (drop from bytes) refl) (sym shows ∙ e)
+
+-- the same of a token of a line
+pub named-plain : (p : Bool) (bytes : List ℕ) (at : ℕ) (t : PlainToken) (x : List ℕ) → t ≡ first_token p bytes at → t.piece ≡ name x → IsName (slice_range bytes t.from t.to)
+unfolding Goal plain_token token_from
+named-plain p bytes at t x is e =
+    subst (λ (u : PlainToken). class_of u.piece ≡ Name → IsName (slice_range bytes u.from u.to)) (sym is)
+    (here p bytes (at + prefix_len is_blank (drop at bytes)) (drop (at + prefix_len is_blank (drop at bytes)) bytes) refl)
+    (ap class_of e)

@@ -64,7 +64,7 @@ pub record Fails (above : List PlainLine) (front : List Piece) (ts : List PlainT
   pub first : FirstStands above (front ++ pieces used) token.piece (pieces after) f.kind
 
 module _ (p : Bool) (bytes : List ℕ) (above : List PlainLine) (v : Bool) (front : List Piece) (at : ℕ) (ts : List PlainToken) where
-  pub Gets-one : (t : Token p bytes at ts) (s : Place) → NoFault above front t.token.piece (pieces t.more) → At v (front ++ t.token.piece ∷ []) s → is_last t.token.piece ≡ false → Gets p bytes above v front ts t.token.to s (t.token.piece ∷ [])
+  abbrev pub Gets-one : (t : Token p bytes at ts) (s : Place) → NoFault above front t.token.piece (pieces t.more) → At v (front ++ t.token.piece ∷ []) s → is_last t.token.piece ≡ false → Gets p bytes above v front ts t.token.to s (t.token.piece ∷ [])
   Gets-one t s none place goes_on = record {
     used = t.token ∷ [];
     rest = t.more;

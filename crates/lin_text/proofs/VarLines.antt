@@ -20,14 +20,16 @@ use Rattle.lin_text.proofs.Passing.{At, At-next, At-var, IsRoom, NoFault, FirstS
 use Rattle.lin_text.proofs.Outcomes.{Passes, Token, token_of, Gets, Gets-one, Gets-both, Fails, Fails-one, Fails-behind, Outcome}
 use Rattle.lin_text.proofs.Bounds.{IsIntegerAt, integer_out, low_places, high_places, refuse, not_too_large}
 use Rattle.lin_text.proofs.AtomLines.{LineOut, LineOut-behind, LineOut-then, end_out}
+use Rattle.lin_model.specs.Names.{IsName}
+use Rattle.lin_text.proofs.NamedLemmas.{named-plain}
 use Rattle.lin_text.proofs.PositionLemmas.{position-none, Contains-position, name-text}
 
 var_room : (above : List PlainLine) (front : List Piece) (q : Piece) → (front ≡ [] → ⊥) → IsRoom above front q
-var_room above front q some = record { vars = λ e _. some e; atoms = λ e _. some e }
+var_room above front q some = record { vars = λ e _. some e; atoms = λ e _ _. some e }
 
 -- a name that isn't declared so far
 abbrev pub IsFreeName : List ℕ → List (List ℕ) → ℕ → ℕ → List Piece → Place → Type 0
-IsFreeName bytes names from to ps s = (x : List ℕ) × (ps ≡ name x ∷ []) × (x ≡ slice_range bytes from to) × (Contains names x → ⊥) × (s ≡ low)
+IsFreeName bytes names from to ps s = (x : List ℕ) × (ps ≡ name x ∷ []) × (x ≡ slice_range bytes from to) × (Contains names x → ⊥) × (s ≡ low) × IsName (slice_range bytes from to)
 
 -- the name is read, or the fault is at the first token
 abbrev pub FreeNameOut : Bool → List ℕ → List PlainLine → List PlainToken → Result (ℕ × ℕ) Fault → Type 0
@@ -51,7 +53,7 @@ module _ (p : Bool) (bytes : List ℕ) (above : List PlainLine) (at : ℕ) (ts :
       }), refl)
   free_by x is None e =
       let there : position (bytes_eq x) (declared_names above) ≡ None = ap (λ (y : List ℕ). position (bytes_eq y) (declared_names above)) (name-text p bytes at t.token x t.is is) ∙ e in
-      (t.token.piece ∷ [], low, (x, ap (λ (q : Piece). q ∷ []) is, name-text p bytes at t.token x t.is is, position-none x (declared_names above) there, refl),
+      (t.token.piece ∷ [], low, (x, ap (λ (q : Piece). q ∷ []) is, name-text p bytes at t.token x t.is is, position-none x (declared_names above) there, refl, named-plain p bytes at t.token x t.is is),
        Gets-one p bytes above true (var ∷ []) at ts t low
        (passed above true (var ∷ []) var_name low t.token.piece (pieces t.more) At-var (var_room above (var ∷ []) t.token.piece (λ f. cc)) (ap (next var_name) is) (λ l f. cc)
          (λ n same. let no : name x ≡ number n = sym is ∙ same in absurd (cc))
@@ -282,7 +284,7 @@ module _ {X : Type 0} (p : Bool) (bytes : List ℕ) (above : List PlainLine) (fr
 -- what a declaration means of the tokens behind the word
 abbrev pub IsDeclared : List ℕ → List (List ℕ) → ℕ × ℕ × ℤ × ℤ → List Piece → Type 0
 IsDeclared bytes names d ps =
-    (x : List ℕ) × (qs : List Piece) × (ps ≡ name x ∷ qs) × (x ≡ slice_range bytes d.0 d.1) × (Contains names x → ⊥) × IsRange d.2 d.3 qs × (d.2 ≤ℤ d.3)
+    (x : List ℕ) × (qs : List Piece) × (ps ≡ name x ∷ qs) × (x ≡ slice_range bytes d.0 d.1) × (Contains names x → ⊥) × IsRange d.2 d.3 qs × (d.2 ≤ℤ d.3) × IsName (slice_range bytes d.0 d.1)
 
 abbrev pub HasNoEmptyRange : List Piece → Type 0
 HasNoEmptyRange ps = (x : List ℕ) (qs : List Piece) → ps ≡ name x ∷ qs → IsEmptyRange qs → ⊥
@@ -302,7 +304,7 @@ declaration_rest p bytes above at ts d o (Ok y) h =
       ap pieces o.3.split ∙ map-append (λ (t : PlainToken). t.piece) o.3.used o.3.rest ∙ ap (λ (qs : List Piece). qs ++ pieces o.3.rest) (o.3.are ∙ o.2.1) in
     let passes = LineOut-behind p bytes above true (var ∷ []) at ts (λ (_ : Unit {0}) (_ : List Piece). Unit {0}) d.1 o.1 o.0 (Ok tt) o.3 (tt, h.5) in
     let value : y ≡ (d.0, d.1, h.0, h.1) = h.2 in
-    (subst (λ (z : ℕ × ℕ × ℤ × ℤ). IsDeclared bytes (declared_names above) z (pieces ts)) (sym value) (x, pieces o.3.rest, all, o.2.2, o.2.3, h.3, h.4),
+    (subst (λ (z : ℕ × ℕ × ℤ × ℤ). IsDeclared bytes (declared_names above) z (pieces ts)) (sym value) (x, pieces o.3.rest, all, o.2.2, o.2.3, h.3, h.4, o.2.5),
      passes.1,
      λ z qs e. λ empty. h.6 (subst (λ (rs : List Piece). IsEmptyRange rs) (tail_is x z (pieces ts) (pieces o.3.rest) qs all e) empty))
 declaration_rest p bytes above at ts d o (Err f) h =

@@ -9,3 +9,4 @@ pub mod Grammar
 pub mod Faults
 pub mod Queries
 pub mod Reading
+pub mod Answers

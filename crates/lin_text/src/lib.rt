@@ -7,6 +7,7 @@ mod draft;
 mod fault;
 mod lines;
 mod names;
+mod query;
 mod refusal;
 mod run;
 mod side;
@@ -16,6 +17,7 @@ mod write;
 
 pub use fault::{SessionFault, SessionKind, TextFault, TextKind};
 pub use lines::next_line;
+pub use query::read_query;
 pub use small::read_small;
 pub use token::{Token, TokenKind, next_token};
 pub use write::write_query;

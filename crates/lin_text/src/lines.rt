@@ -16,7 +16,9 @@ fn is_skipped(bytes: &[u8]) -> bool
 /// The start of the line below the one that goes through `at`, or the input's length.
 pub fn line_below(bytes: &[u8], at: usize) -> usize
     requires { at ≤ length bytes.now }
-    ensures { result ≡ line_below bytes.now at }
+    ensures start { result ≡ line_below bytes.now at }
+    ensures within { result ≤ length bytes.now }
+    ensures further { at < length bytes.now → at < result }
 {
     let end = at + run_length(Run::Line, bytes_from(bytes, at));
     if end < bytes.len() {
@@ -31,6 +33,7 @@ pub fn first_line(bytes: &[u8], at: usize) -> usize
     requires { at ≤ length bytes.now }
     ensures start { result ≡ line_from bytes.now at }
     ensures within { result ≤ length bytes.now }
+    ensures ahead { at ≤ result }
 {
     let mut start = at;
     while start < bytes.len() && is_skipped(bytes_from(bytes, start)) {
