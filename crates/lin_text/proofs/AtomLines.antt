@@ -23,21 +23,21 @@ abbrev pub LineOut : {X : Type 0} → List PlainLine → List Piece → List Pla
 LineOut above front ts N (Ok x) = N x (pieces ts) × Passes above front (pieces ts) []
 LineOut above front ts N (Err f) = Fails above front ts f
 
+-- behind tokens that were passed
+pub LineOut-behind : {X : Type 0} (p : Bool) (bytes : List ℕ) (above : List PlainLine) (v : Bool) (front : List Piece) (at : ℕ) (ts : List PlainToken) (N : X → List Piece → Type 0) (a : ℕ) (s : Place) (ps : List Piece) (r : Result X Fault) (got : Gets p bytes above v front ts a s ps) → LineOut above (front ++ ps) got.rest (λ x qs. N x (ps ++ qs)) r → LineOut above front ts N r
+LineOut-behind {X} p bytes above v front at ts N a s ps (Ok y) got h =
+    let all : pieces ts ≡ pieces got.used ++ pieces got.rest = ap pieces got.split ∙ map-append (λ (t : PlainToken). t.piece) got.used got.rest in
+    (subst (λ (qs : List Piece). N y qs) (sym (all ∙ ap (λ (qs : List Piece). qs ++ pieces got.rest) got.are)) h.0,
+     subst (λ (qs : List Piece). Passes above front qs []) (sym all)
+     (Passes-append above front (pieces got.used) (pieces got.rest) []
+       (subst (λ (qs : List Piece). Passes above front (pieces got.used) qs) (sym (append-nil (pieces got.rest))) got.passes)
+       (subst (λ (f : List Piece). Passes above (front ++ f) (pieces got.rest) []) (sym got.are) h.1)))
+LineOut-behind p bytes above v front at ts N a s ps (Err f) got h = Fails-behind p bytes above v front at ts a s ps f got h
+
 pub LineOut-then : {A X : Type 0} (p : Bool) (bytes : List ℕ) (above : List PlainLine) (v : Bool) (front : List Piece) (at : ℕ) (ts : List PlainToken) (M : A → ℕ → List Piece → Place → Type 0) (N : X → List Piece → Type 0) (r : Result (A × ℕ) Fault) (g : A × ℕ → Result X Fault) → Outcome p bytes above v front ts M r → ((a : A) (to : ℕ) (ps : List Piece) (s : Place) → M a to ps s → At v (front ++ ps) s → (rest : List PlainToken) → AreTokens p bytes to rest → LineOut above (front ++ ps) rest (λ x qs. N x (ps ++ qs)) (g (a, to))) → LineOut above front ts N (r >>= g)
 LineOut-then p bytes above v front at ts M N (Err f) g o k = o
-LineOut-then {A} {X} p bytes above v front at ts M N (Ok x) g o k =
-    let ps = o.0 in
-    let got = o.3 in
-    let all : pieces ts ≡ pieces got.used ++ pieces got.rest = ap pieces got.split ∙ map-append (λ (t : PlainToken). t.piece) got.used got.rest in
-    elim (g x) as (λ r. LineOut above (front ++ ps) got.rest (λ y qs. N y (ps ++ qs)) r → LineOut above front ts N r) [
-      Ok y ↦ λ h.
-        (subst (λ (qs : List Piece). N y qs) (sym (all ∙ ap (λ (qs : List Piece). qs ++ pieces got.rest) got.are)) h.0,
-         subst (λ (qs : List Piece). Passes above front qs []) (sym all)
-         (Passes-append above front (pieces got.used) (pieces got.rest) []
-           (subst (λ (qs : List Piece). Passes above front (pieces got.used) qs) (sym (append-nil (pieces got.rest))) got.passes)
-           (subst (λ (f : List Piece). Passes above (front ++ f) (pieces got.rest) []) (sym got.are) h.1)))
-      | Err f ↦ λ h. Fails-behind p bytes above v front at ts x.1 o.1 ps f got h
-    ] (k x.0 x.1 ps o.1 o.2 got.place got.rest got.there)
+LineOut-then p bytes above v front at ts M N (Ok x) g o k =
+    LineOut-behind p bytes above v front at ts N x.1 o.1 o.0 (g x) o.3 (k x.0 x.1 o.0 o.1 o.2 o.3.place o.3.rest o.3.there)
 
 -- the end of the line, where it may come
 module _ (p : Bool) (bytes : List ℕ) (above : List PlainLine) (v : Bool) (front : List Piece) (at : ℕ) (ts : List PlainToken) (t : Token p bytes at ts) (room : IsRoom above front t.token.piece) (w : Place) (here : At v front w) (ends : next w line_end ≡ Some done) (other : is_end_class (class_of t.token.piece) ≡ false → next w t.token.piece ≡ None) (space : (l : Bool) → next w minus ≡ Some (size l 64) → ⊥) where
@@ -94,7 +94,7 @@ module _ (p : Bool) (bytes : List ℕ) (above : List PlainLine) (front : List Pi
   IsSign c to ps s = (ps ≡ compare c ∷ []) × (s ≡ item false 0)
 
   sign_room : IsRoom above front t.token.piece
-  sign_room = record { vars = λ e _. after-some false true k bare front here e; atoms = λ e _. after-some false true k bare front here e }
+  sign_room = record { vars = λ e _. after-some false true k bare front here e; atoms = λ e _ _. after-some false true k bare front here e }
 
   sign_by : (q : Piece) → t.token.piece ≡ q → Outcome p bytes above false front ts IsSign (comparison_by (class_of q) (shown t.token))
   sign_by (compare c) is =
@@ -135,7 +135,7 @@ pub atom_out : (p : Bool) (bytes : List ℕ) (above : List PlainLine) (at : ℕ)
 unfolding atom_at
 atom_out p bytes above at ts t no_var few =
     LineOut-then p bytes above false [] at ts (IsWholeSide p bytes (declared_names above) true) (λ atom ps. Compares (declared_names above) ps atom) (side_at p bytes (declared_names above) at) _
-    (side_out p bytes above [] at ts true At-start t (record { vars = λ _ e. no_var e; atoms = λ _ e. few e }))
+    (side_out p bytes above [] at ts true At-start t (record { vars = λ _ e. no_var e; atoms = λ _ _ e. few e }))
     (λ ls to1 lps s1 left place1 rest1 are1.
       let t1 = token_of p bytes to1 rest1 are1 in
       let here1 : At false ([] ++ lps) (after true left.1 left.2) = subst (λ (u : Place). At false ([] ++ lps) u) left.5 place1 in
@@ -150,7 +150,7 @@ atom_out p bytes above at ts t no_var few =
           let t3 = token_of p bytes to3 rest3 are3 in
           let front3 = (([] ++ lps) ++ cps) ++ rps in
           let here3 : At false front3 (after false right.1 right.2) = subst (λ (u : Place). At false front3 u) right.5 place3 in
-          end_out p bytes above false front3 to3 rest3 t3 (record { vars = λ e _. after-some false false right.1 right.2 front3 here3 e; atoms = λ e _. after-some false false right.1 right.2 front3 here3 e })
+          end_out p bytes above false front3 to3 rest3 t3 (record { vars = λ e _. after-some false false right.1 right.2 front3 here3 e; atoms = λ e _ _. after-some false false right.1 right.2 front3 here3 e })
           (after false right.1 right.2) here3 (ends right.1 right.2)
           (λ no_end. right_ends right.1 right.2 t3.token.piece (ap (λ (x : Lexeme). is_joint x.class) (sym t3.shows) ∙ right.7) (λ b. ap (λ (x : Lexeme). is_times x.class) (sym t3.shows) ∙ right.6 b) no_end)
           (λ l e. cc)
@@ -162,4 +162,4 @@ atom_out p bytes above at ts t no_var few =
   ends k false = refl
   sign_behind : (above : List PlainLine) (front cps : List Piece) (c : Cmp) (q : Piece) → cps ≡ compare c ∷ [] → IsRoom above (front ++ cps) q
   sign_behind above front cps c q e =
-      record { vars = λ f _. not-nil front (compare c) (ap (λ (qs : List Piece). front ++ qs) (sym e) ∙ f); atoms = λ f _. not-nil front (compare c) (ap (λ (qs : List Piece). front ++ qs) (sym e) ∙ f) }
+      record { vars = λ f _. not-nil front (compare c) (ap (λ (qs : List Piece). front ++ qs) (sym e) ∙ f); atoms = λ f _ _. not-nil front (compare c) (ap (λ (qs : List Piece). front ++ qs) (sym e) ∙ f) }

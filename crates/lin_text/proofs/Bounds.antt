@@ -78,9 +78,9 @@ not_too_large front n rest v le (inr big) = let lt : 2 ^ 31 < n = big.0 in omega
 
 module _ (p : Bool) (bytes : List ℕ) (above : List PlainLine) (front : List Piece) (at : ℕ) (ts : List PlainToken) (some : front ≡ [] → ⊥) where
   abbrev pub room : (q : Piece) → IsRoom above front q
-  room q = record { vars = λ e _. some e; atoms = λ e _. some e }
+  room q = record { vars = λ e _. some e; atoms = λ e _ _. some e }
 
-  pub refuse : (w : Place) → At true front w → (t : Token p bytes at ts) → next w t.token.piece ≡ None → Fails above front ts (refusal (shown t.token))
+  abbrev pub refuse : (w : Place) → At true front w → (t : Token p bytes at ts) → next w t.token.piece ≡ None → Fails above front ts (refusal (shown t.token))
   refuse w here t none =
       Fails-one p bytes above true front at ts t (refusal_kind (class_of t.token.piece))
       (refused above true front w t.token.piece (pieces t.more) here (room t.token.piece) none)

@@ -101,7 +101,7 @@ times-only _ e = absurd (cc)
 
 -- the line has begun
 abbrev pub later_room : (above : List PlainLine) (front : List Piece) (q r : Piece) → IsRoom above (front ++ q ∷ []) r
-later_room above front q r = record { vars = λ e _. not-nil front q e; atoms = λ e _. not-nil front q e }
+later_room above front q r = record { vars = λ e _. not-nil front q e; atoms = λ e _ _. not-nil front q e }
 
 -- a number where an item's may stand
 module _ (p : Bool) (bytes : List ℕ) (above : List PlainLine) (front : List Piece) (at : ℕ) (ts : List PlainToken) (t : Token p bytes at ts) (room : IsRoom above front t.token.piece) (w : Place) (l : Bool) (k : ℕ) (here : At false front w) (n : ℕ) (is : t.token.piece ≡ number n) (some : next w (number n) ≡ Some (after l (suc k) true)) (space : (r : Bool) → next w minus ≡ Some (size r 64) → ⊥) (negative : Bool) where

@@ -1,5 +1,7 @@
 pub mod LineLemmas
+pub mod Positions
 pub mod WordLemmas
+pub mod NamedLemmas
 pub mod NameLemmas
 pub mod SideLemmas
 pub mod Places
@@ -12,12 +14,13 @@ pub mod Items
 pub mod Sides
 pub mod AtomLines
 pub mod VarLines
+pub mod QueryLines
 mod SmallLemmas
 mod SpaceLemmas
 mod ReadBackTokens
 mod ReadBackWords
 mod ReadBackSides
 mod ReadBackLines
+mod ReadBackFront
 mod ReadBack
-mod WholeTexts
 mod ReadBackWithin

@@ -64,7 +64,7 @@ pub record Fails (above : List PlainLine) (front : List Piece) (ts : List PlainT
   pub first : FirstStands above (front ++ pieces used) token.piece (pieces after) f.kind
 
 module _ (p : Bool) (bytes : List ℕ) (above : List PlainLine) (v : Bool) (front : List Piece) (at : ℕ) (ts : List PlainToken) where
-  pub Gets-one : (t : Token p bytes at ts) (s : Place) → NoFault above front t.token.piece (pieces t.more) → At v (front ++ t.token.piece ∷ []) s → is_last t.token.piece ≡ false → Gets p bytes above v front ts t.token.to s (t.token.piece ∷ [])
+  abbrev pub Gets-one : (t : Token p bytes at ts) (s : Place) → NoFault above front t.token.piece (pieces t.more) → At v (front ++ t.token.piece ∷ []) s → is_last t.token.piece ≡ false → Gets p bytes above v front ts t.token.to s (t.token.piece ∷ [])
   Gets-one t s none place goes_on = record {
     used = t.token ∷ [];
     rest = t.more;
@@ -86,7 +86,7 @@ module _ (p : Bool) (bytes : List ℕ) (above : List PlainLine) (v : Bool) (fron
     place = subst (λ (f : List Piece). At v f s) (sym (append-nil front)) place;
   }
 
-  pub Fails-one : (t : Token p bytes at ts) (kind : TextKind) → FirstStands above front t.token.piece (pieces t.more) kind → Fails above front ts (fault_at kind t.token.from)
+  abbrev pub Fails-one : (t : Token p bytes at ts) (kind : TextKind) → FirstStands above front t.token.piece (pieces t.more) kind → Fails above front ts (fault_at kind t.token.from)
   Fails-one t kind first = record {
     used = [];
     token = t.token;
@@ -115,7 +115,7 @@ module _ (p : Bool) (bytes : List ℕ) (above : List PlainLine) (v : Bool) (fron
         place = subst (λ (f : List Piece). At v f u) (append_assoc front ps qs) h.place;
       }
 
-  pub Fails-behind : (a : ℕ) (s : Place) (ps : List Piece) (f : Fault) (g : Gets p bytes above v front ts a s ps) → Fails above (front ++ ps) g.rest f → Fails above front ts f
+  abbrev pub Fails-behind : (a : ℕ) (s : Place) (ps : List Piece) (f : Fault) (g : Gets p bytes above v front ts a s ps) → Fails above (front ++ ps) g.rest f → Fails above front ts f
   Fails-behind a s ps f g h =
       let all : pieces (g.used ++ h.used) ≡ pieces g.used ++ pieces h.used = map-append (λ (t : PlainToken). t.piece) g.used h.used in
       let rest : pieces g.rest ≡ pieces h.used ++ (h.token.piece ∷ pieces h.after) = ap pieces h.split ∙ map-append (λ (t : PlainToken). t.piece) h.used (h.token ∷ h.after) in

@@ -111,7 +111,7 @@ pub record FirstStands (above : List PlainLine) (front : List Piece) (q : Piece)
 -- the limits of the query's lines don't stop the line
 pub record IsRoom (above : List PlainLine) (front : List Piece) (q : Piece) : Type 0 where
   pub vars : front ≡ [] → q ≡ var → ⊥
-  pub atoms : front ≡ [] → atom_count above ≡ 256 → ⊥
+  pub atoms : front ≡ [] → IsTrue (begins_atom q) → atom_count above ≡ 256 → ⊥
 
 -- a token that can't come next
 pub refused : (above : List PlainLine) (v : Bool) (front : List Piece) (s : Place) (q : Piece) (rest : List Piece) → At v front s → IsRoom above front q → next s q ≡ None → FirstStands above front q rest (refusal_kind (class_of q))
@@ -135,7 +135,7 @@ refused above v front s q rest at room none =
   no_line b = let r = run-BeginsLine (front ++ q ∷ []) b in let e : None ≡ Some r.0 = sym none ∙ sym (at.step q room.vars) ∙ r.1 in cc
   before-token : q ≡ bad → (k : TextKind) → Stands above front q rest k → rank Token ≤ rank k
   before-token is TooManyVars h = absurd (room.vars h.0 h.1)
-  before-token is TooManyAtoms h = absurd (room.atoms h.0 h.2)
+  before-token is TooManyAtoms h = absurd (room.atoms h.0 h.1 h.2)
   before-token is TooManyTerms h = absurd (no_terms h.0 h.1)
   before-token is Token h = lit≤ tt
   before-token is Syntax h = lit≤ tt
@@ -146,7 +146,7 @@ refused above v front s q rest at room none =
   before-token is NoMemory h = lit≤ tt
   before-syntax : (q ≡ bad → ⊥) → (k : TextKind) → Stands above front q rest k → rank Syntax ≤ rank k
   before-syntax not_bad TooManyVars h = absurd (room.vars h.0 h.1)
-  before-syntax not_bad TooManyAtoms h = absurd (room.atoms h.0 h.2)
+  before-syntax not_bad TooManyAtoms h = absurd (room.atoms h.0 h.1 h.2)
   before-syntax not_bad TooManyTerms h = absurd (no_terms h.0 h.1)
   before-syntax not_bad Token h = absurd (not_bad h)
   before-syntax not_bad Syntax h = lit≤ tt
@@ -181,7 +181,7 @@ module _ (above : List PlainLine) (v : Bool) (front : List Piece) (s t : Place) 
 
   pub small_rank : (k : TextKind) → Stands above front q rest k → 5 ≤ rank k
   small_rank TooManyVars h = absurd (room.vars h.0 h.1)
-  small_rank TooManyAtoms h = absurd (room.atoms h.0 h.2)
+  small_rank TooManyAtoms h = absurd (room.atoms h.0 h.1 h.2)
   small_rank TooManyTerms h = absurd (no_terms h.0)
   small_rank Token h = absurd (not_bad h)
   small_rank Syntax h = absurd (h begins)
@@ -194,7 +194,7 @@ module _ (above : List PlainLine) (v : Bool) (front : List Piece) (s t : Place) 
   -- no fault stands there
   pub passed : ((n : ℕ) → q ≡ number n → IsTooLarge front n rest → ⊥) → ((x : List ℕ) → q ≡ name x → v ≡ false → Contains (declared_names above) x) → ((x : List ℕ) → q ≡ name x → front ≡ var ∷ [] → Contains (declared_names above) x → ⊥) → NoFault above front q rest
   passed small known once TooManyVars ne h = room.vars h.0 h.1
-  passed small known once TooManyAtoms ne h = room.atoms h.0 h.2
+  passed small known once TooManyAtoms ne h = room.atoms h.0 h.1 h.2
   passed small known once TooManyTerms ne h = no_terms h.0
   passed small known once Token ne h = not_bad h
   passed small known once Syntax ne h = h begins

@@ -1,5 +1,5 @@
 -- The plain spelling of a condition within a text.
-use Rattle.std.proofs.Common.{◌≡◌, ℕ, ◌+◌, ◌<◌, ◌≤◌, Bool, true, false, cond, not, List, [], ◌∷◌, ◌++◌, length, drop, refl, sym, ap, subst, ◌∙◌, arith, inl, inr, length-drop, length-append}
+use Rattle.std.proofs.Common.{◌≡◌, ℕ, ◌+◌, ◌<◌, ◌≤◌, suc, Bool, true, false, cond, not, List, [], ◌∷◌, ◌++◌, length, drop, refl, sym, ap, subst, ◌∙◌, arith, inl, inr, length-drop, length-append}
 use Rattle.std.specs.Prelude.{codes}
 use Rattle.std.specs.List.{prefix_len}
 use Rattle.std.proofs.Math.Seq.{drop-append_seam}
@@ -9,12 +9,13 @@ use Rattle.lin_model.specs.Conditions.{PlainCondition, IsCondition}
 use Rattle.lin_text.specs.Spelling.{condition_text}
 use Rattle.lin_text.specs.Lines.{is_skipped, line_from, line_below}
 use Rattle.lin_text.specs.Tokens.{token_from, token_here, token_length}
-use Rattle.lin_text.specs.Pieces.{Piece, word, PlainToken, PlainLine, plain_token, piece_of, name_piece, first_token, pieces, AreTokens}
+use Rattle.lin_text.specs.Pieces.{Piece, word, PlainToken, PlainLine, plain_token, piece_of, name_piece, first_token, pieces, AreTokens, AreLines}
 use Rattle.lin_text.specs.Queries.{begins_word, is_of_query, query_lines, start_of, query_end, AreDeclaredAndCompared, Spells}
 use Rattle.lin_text.specs.Laws.{EndsQuery}
 use Rattle.lin_text.proofs.LineLemmas.{line_from-here}
-use Rattle.lin_text.proofs.WholeTexts.{front_piece, first_token-front, SomeTokens, some_tokens, SomeLines, some_lines, counts-word}
-use Rattle.lin_text.proofs.ReadBack.{GoesOn, walk_condition, at_end}
+use Rattle.lin_text.proofs.Positions.{tokens_total, lines_total}
+use Rattle.lin_text.proofs.ReadBackFront.{front_piece, first_token-front, counts-word}
+use Rattle.lin_text.proofs.ReadBack.{Walks, GoesOn, walk_condition, at_end}
 
 -- the first token of a line, among all of its tokens
 begins_with : (bytes : List ℕ) (at : ℕ) (w : List ℕ) (ts : List PlainToken) → AreTokens false bytes at ts → (first_token false bytes at).piece ≡ word w → begins_word (pieces ts) ≡ true
@@ -35,21 +36,23 @@ unfolding is_skipped
 some_bytes [] counts = absurd (cc)
 some_bytes (b ∷ bs) counts = omega arith
 
+walk_word : (bytes : List ℕ) (at : ℕ) (w : List ℕ) (vars : List PlainVar) (end : ℕ) (ts : List PlainToken) (lines : List PlainLine) → line_from bytes at ≡ at → at < length bytes → AreTokens false bytes at ts → AreLines false bytes (line_below bytes at) lines → (first_token false bytes at).piece ≡ word w → end ≡ at → Walks bytes at vars [] [] end
+walk_word bytes at w vars end ts lines here room are more begins same =
+    let line : PlainLine = record { start = at; tokens = ts } in
+    let word_first : begins_word (pieces ts) ≡ true = begins_with bytes at w ts are begins in
+    record { lines = line ∷ lines; are = (sym here, room, are, more); meant = no_more bytes vars line lines word_first; ends = same ∙ sym (ends_here bytes line lines word_first) }
+
 -- a line that begins with a word ends the query
 at_word : (bytes rest w : List ℕ) (vars : List PlainVar) (end : ℕ) → front_piece false rest ≡ word w → end + length rest ≡ length bytes → GoesOn bytes rest vars [] [] end
 at_word bytes rest w vars end is place =
     λ at within e.
     let same : end ≡ at = omega (arith, ap length e, length-drop at bytes) in
     let counts : is_skipped rest ≡ false = counts-word false rest w is in
-    let here : line_from bytes at ≡ at = line_from-here bytes rest at (sym e) counts in
     let room : at < length bytes = omega (arith, some_bytes rest counts) in
     let begins : (first_token false bytes at).piece ≡ word w = ap (λ (t : PlainToken). t.piece) (first_token-front false bytes at) ∙ (ap (front_piece false) e ∙ is) in
-    let ts : SomeTokens false bytes at = some_tokens false bytes at in
-    let below : line_below bytes at ≤ length bytes = omega arith in
-    let more : SomeLines false bytes (line_below bytes at) = some_lines false bytes (line_below bytes at) below in
-    let line : PlainLine = record { start = at; tokens = ts.0 } in
-    let word_first : begins_word (pieces ts.0) ≡ true = begins_with bytes at w ts.0 ts.1 begins in
-    record { lines = line ∷ more.0; are = (sym here, room, ts.1, more.1); meant = no_more bytes vars line more.0 word_first; ends = same ∙ sym (ends_here bytes line more.0 word_first) }
+    let ts = tokens_total (suc (length bytes)) false bytes at within (omega arith) in
+    let lines = lines_total (suc (length bytes)) false bytes (line_below bytes at) (omega arith) (omega arith) in
+    walk_word bytes at w vars end ts.0 lines.0 (line_from-here bytes rest at (sym e) counts) room ts.1 lines.1 begins same
 
 goes_on_behind : (bytes rest : List ℕ) (vars : List PlainVar) (end : ℕ) → EndsQuery rest → end + length rest ≡ length bytes → GoesOn bytes rest vars [] [] end
 goes_on_behind bytes rest vars end (inl none) place =

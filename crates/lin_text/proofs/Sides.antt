@@ -42,7 +42,7 @@ no_item l k _ e = refl
 module _ (p : Bool) (bytes : List ℕ) (above : List PlainLine) (front : List Piece) (at : ℕ) (ts : List PlainToken) (l : Bool) (here : At false front (item l 64)) (t : Token p bytes at ts) (room : IsRoom above front t.token.piece) where
   full_rank : (k : TextKind) → Stands above front t.token.piece (pieces t.more) k → 2 ≤ rank k
   full_rank kinds.TooManyVars h = absurd (room.vars h.0 h.1)
-  full_rank kinds.TooManyAtoms h = absurd (room.atoms h.0 h.2)
+  full_rank kinds.TooManyAtoms h = absurd (room.atoms h.0 h.1 h.2)
   full_rank kinds.TooManyTerms h = lit≤ tt
   full_rank kinds.Token h = lit≤ tt
   full_rank kinds.Syntax h = lit≤ tt
@@ -135,7 +135,7 @@ module _ (p : Bool) (bytes : List ℕ) (above : List PlainLine) (front : List Pi
     item-some : (i : Item) (xs : List Piece) → xs ≡ item_pieces i → front ++ xs ≡ [] → ⊥
     item-some i xs e f = item_pieces-some i.negative i.quantity (sym e ∙ right-nil front xs f)
     nonempty_room : IsRoom above (front ++ ps) t.token.piece
-    nonempty_room = record { vars = λ e _. item-some m.0 ps m.2 e; atoms = λ e _. item-some m.0 ps m.2 e }
+    nonempty_room = record { vars = λ e _. item-some m.0 ps m.2 e; atoms = λ e _ _. item-some m.0 ps m.2 e }
 
 pub items_out : (n k : ℕ) (p : Bool) (bytes : List ℕ) (above : List PlainLine) (front : List Piece) (at : ℕ) (ts : List PlainToken) (l : Bool) (subtracted : Bool) → n + k ≡ 64 → At false front (item l k) → (t : Token p bytes at ts) → IsRoom above front t.token.piece → Outcome p bytes above false front ts (IsSideAt p bytes (declared_names above) subtracted l k n) (items_at n p bytes (declared_names above) subtracted at)
 unfolding items_at

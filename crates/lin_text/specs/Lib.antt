@@ -9,4 +9,5 @@ pub mod Grammar
 pub mod Faults
 pub mod Queries
 pub mod Reading
+pub mod Answers
 pub mod Laws

@@ -1,5 +1,5 @@
 -- The lines of a query, the condition that they spell, and what is answered for a text.
-use Rattle.std.specs.Prelude.{◌≡◌, ℕ, Bool, true, false, not, ◌⊎◌, List, [], ◌∷◌, ◌++◌, length, map, drop}
+use Rattle.std.specs.Prelude.{◌≡◌, ◌≤◌, ℕ, Bool, true, false, not, ◌⊎◌, List, [], ◌∷◌, ◌++◌, length, map, drop}
 use Rattle.std.specs.List.{take_while, prefix_len}
 use Rattle.lin_model.specs.Terms.{PlainVar}
 use Rattle.lin_model.specs.Conditions.{PlainCondition, Fits}
@@ -56,3 +56,9 @@ pub record HasFault (in_proof : Bool) (bytes : List ℕ) (at : ℕ) (kind : Text
   pub lines : List PlainLine
   pub are : AreLines in_proof bytes at lines
   pub first : IsFirstFault (query_lines lines) kind place
+
+-- what the lines of a query declare and compare so far, with the names
+pub record IsDraft (names : List (List ℕ)) (vars : List PlainVar) (atoms : List Atom) : Type 0 where
+  pub named : names ≡ names_of vars
+  pub few_vars : length vars ≤ 64
+  pub few_atoms : length atoms ≤ 256

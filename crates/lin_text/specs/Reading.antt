@@ -1,10 +1,11 @@
 -- What the reader answers for a part of a line: a value with the place behind it, or the first fault.
-use Rattle.std.specs.Prelude.{◌≡◌, ℕ, ◌+◌, ◌^◌, zero, suc, nat_lt, Bool, true, false, not, List, [], ◌∷◌, slice_range, bytes_eq, position, is_some, ℤ, pos, neg_ℤ, int_lt, Option, Some, None, Result, Ok, Err, if◌then◌else◌}
-use Rattle.lin_model.specs.Terms.{PlainTerm}
+use Rattle.std.specs.Prelude.{◌≡◌, ℕ, ◌+◌, ◌^◌, zero, suc, nat_lt, Bool, true, false, not, List, [], ◌∷◌, ◌++◌, ◌==◌, length, slice_range, bytes_eq, position, is_some, ℤ, pos, neg_ℤ, int_lt, Option, Some, None, Result, Ok, Err, if◌then◌else◌}
+use Rattle.lin_model.specs.Terms.{PlainTerm, PlainVar}
+use Rattle.lin_model.specs.Conditions.{PlainCondition}
 use Rattle.lin_model.specs.declared.atom.Atom.{Atom}
 use Rattle.lin_model.specs.declared.atom.Cmp.{Cmp}
 use Rattle.lin_text.specs.declared.fault.TextKind.{TextKind}
-use Rattle.lin_text.specs.declared.fault.TextKind.TheVariants.{Token, Syntax, NumberTooLarge, UnknownName, NameTwice, EmptyRange, TooManyTerms}
+use Rattle.lin_text.specs.declared.fault.TextKind.TheVariants.{Token, Syntax, NumberTooLarge, UnknownName, NameTwice, EmptyRange, TooManyVars, TooManyAtoms, TooManyTerms}
 use Rattle.lin_text.specs.declared.refusal.Fault.{Fault}
 use Rattle.lin_text.specs.declared.refusal.ReadError.{ReadError}
 use Rattle.lin_text.specs.declared.refusal.ReadError.TheVariants as errors
@@ -14,6 +15,7 @@ use Rattle.lin_text.specs.declared.class.Lexeme.{Lexeme}
 use Rattle.lin_text.specs.Pieces.{first_token}
 use Rattle.lin_text.specs.Classes.{shown}
 use Rattle.lin_text.specs.Grammar.{signed}
+use Rattle.lin_text.specs.Queries.{names_of}
 
 infixl 10 ◌>>=◌
 abbrev pub ◌>>=◌ : {A B : Type 0} → Result A Fault → (A → Result B Fault) → Result B Fault
@@ -180,3 +182,42 @@ atom_at p bytes names at =
     side_at p bytes names cmp.1 >>= λ right.
     end_at p bytes right.1 >>= λ _.
     Ok (record { left = left.0; cmp = cmp.0; right = right.0 })
+
+-- a variable that a line declares behind the word `var`
+unfoldable pub variable_at : Bool → List ℕ → List (List ℕ) → ℕ → Result PlainVar Fault
+variable_at p bytes names at = declaration_at p bytes names at >>= λ d. Ok (record { name = slice_range bytes d.0 d.1; lo = d.2; hi = d.3 })
+
+abbrev pub is_var_class : Class → Bool
+is_var_class Var = true
+is_var_class _ = false
+
+abbrev pub is_word_class : Class → Bool
+is_word_class Word = true
+is_word_class _ = false
+
+abbrev pub begins_atom_class : Class → Bool
+begins_atom_class Var = false
+begins_atom_class Word = false
+begins_atom_class Bad = false
+begins_atom_class LineEnd = false
+begins_atom_class _ = true
+
+-- the fault where no more comparisons may come
+unfoldable pub full_query_at : Lexeme → Fault
+full_query_at l = if begins_atom_class l.class then fault_at TooManyAtoms l.from else refusal l
+
+-- what is declared and compared with one variable more, behind the word
+unfoldable pub var_line_at : Bool → List ℕ → PlainCondition → Lexeme → Result PlainCondition Fault
+var_line_at p bytes q word =
+    if length q.vars == 64 then Err (fault_at TooManyVars word.from) else
+    (variable_at p bytes (names_of q.vars) word.to >>= λ v. Ok (record { vars = q.vars ++ v ∷ []; atoms = q.atoms }))
+
+-- what is declared and compared with one atom more, which begins with the token
+unfoldable pub atom_line_at : Bool → List ℕ → PlainCondition → Lexeme → ℕ → Result PlainCondition Fault
+atom_line_at p bytes q first start =
+    if length q.atoms == 256 then Err (full_query_at first) else
+    (atom_at p bytes (names_of q.vars) start >>= λ a. Ok (record { vars = q.vars; atoms = q.atoms ++ a ∷ [] }))
+
+-- what is declared and compared with one line more, which begins with the token
+unfoldable pub line_at : Bool → List ℕ → PlainCondition → Lexeme → ℕ → Result PlainCondition Fault
+line_at p bytes q first start = if is_var_class first.class then var_line_at p bytes q first else atom_line_at p bytes q first start

@@ -1,5 +1,6 @@
 //! What a token is for the grammar: which word, which sign, which number.
-ghost use Rattle.std.specs.Prelude.{◌≡◌, ◌≤◌, ◌+◌, ◌^◌, min, length, bytes_eq};
+ghost use Rattle.std.specs.Prelude.{◌≡◌, ◌≤◌, ◌+◌, ◌^◌, min, length, slice_range, bytes_eq};
+ghost use Rattle.lin_model.specs.Names.{IsName};
 ghost use Rattle.lin_text.specs.Pieces.{number_of, piece_of, comparison_of, name_piece, symbol_piece, is_word, is_claim_word, first_token};
 ghost use Rattle.lin_text.specs.Classes.{class_of, shown};
 
@@ -136,6 +137,7 @@ pub fn next_lexeme(bytes: &[u8], in_proof: bool, at: usize) -> Lexeme
     ensures shown { result ≡ shown (first_token in_proof bytes.now at) }
     ensures order { result.from ≤ result.to }
     ensures within { result.to ≤ length bytes.now }
+    ensures name { result.class ≡ Class.Name → IsName (slice_range bytes.now result.from result.to) }
 {
     let token = next_token(bytes, at);
     Lexeme {

@@ -1,12 +1,14 @@
 //! A line that declares a variable: its name and its bounds.
-ghost use Rattle.std.specs.Prelude.{◌≡◌, ◌≤◌, ◌^◌, length, IfOk, pos, neg_ℤ, ◌≤ℤ◌};
-ghost use Rattle.lin_text.specs.Reading.{bound_of, integer_at, free_name_at, range_at, end_at, declaration_at};
+ghost use Rattle.std.specs.Prelude.{◌≡◌, ◌≤◌, ◌^◌, length, slice_range, position, bytes_eq, None, IfOk, pos, neg_ℤ, ◌≤ℤ◌};
+ghost use Rattle.lin_model.specs.Names.{IsName};
+ghost use Rattle.lin_text.specs.Reading.{bound_of, integer_at, free_name_at, range_at, end_at, declaration_at, variable_at, Gives};
 
 use crate::class::{Class, Lexeme, next_lexeme};
 use crate::fault::TextKind;
 use crate::names::Names;
-use crate::refusal::{Fault, fault_at, refusal};
-use lin_model::MAX_BOUND;
+use crate::refusal::{Fault, ReadError, fault_at, refusal};
+use lin_model::{MAX_BOUND, Name, Var};
+use std::alloc::Global;
 
 /// The number of a bound, and the place behind it.
 #[tactic(auto, unfolding(crate::specs::Reading::bound_of))]
@@ -58,14 +60,17 @@ fn read_free_name(
     ensures exact { result ≡ free_name_at in_proof bytes.now names.now at }
     ensures within { IfOk result (λ r. r.1 ≤ length bytes.now) }
     ensures order { IfOk result (λ r. r.0 ≤ r.1) }
+    ensures name { IfOk result (λ r. IsName (slice_range bytes.now r.0 r.1)) }
+    ensures free { IfOk result (λ r. position (bytes_eq (slice_range bytes.now r.0 r.1)) names.now ≡ None) }
 {
     let token = next_lexeme(bytes, in_proof, at);
     match token.class {
         Class::Name => {
-            if names.find(&bytes[token.from..token.to]).is_some() {
-                return Err(fault_at(TextKind::NameTwice, token.from));
+            let found = names.find(&bytes[token.from..token.to]);
+            match found {
+                Some(_) => Err(fault_at(TextKind::NameTwice, token.from)),
+                None => Ok((token.from, token.to)),
             }
-            Ok((token.from, token.to))
         }
         _ => Err(refusal(token)),
     }
@@ -106,7 +111,7 @@ pub fn read_end(bytes: &[u8], in_proof: bool, at: usize) -> Result<(), Fault>
 /// A declaration behind the word `var`, to the end of the line: from which place to which its name
 /// stands, and its bounds.
 #[tactic(auto, unfolding(crate::specs::Reading::declaration_at))]
-pub fn read_declaration(
+fn read_declaration(
     bytes: &[u8],
     in_proof: bool,
     names: &Names,
@@ -116,6 +121,8 @@ pub fn read_declaration(
     ensures exact { result ≡ declaration_at in_proof bytes.now names.now at }
     ensures within { IfOk result (λ r. r.1 ≤ length bytes.now) }
     ensures places { IfOk result (λ r. r.0 ≤ r.1) }
+    ensures name { IfOk result (λ r. IsName (slice_range bytes.now r.0 r.1)) }
+    ensures free { IfOk result (λ r. position (bytes_eq (slice_range bytes.now r.0 r.1)) names.now ≡ None) }
     ensures low { IfOk result (λ r. neg_ℤ (pos (2 ^ 31)) ≤ℤ r.2) }
     ensures order { IfOk result (λ r. r.2 ≤ℤ r.3) }
     ensures high { IfOk result (λ r. r.3 ≤ℤ pos (2 ^ 31)) }
@@ -124,4 +131,22 @@ pub fn read_declaration(
     let (lo, hi, behind) = read_range(bytes, in_proof, to)?;
     read_end(bytes, in_proof, behind)?;
     Ok((from, to, lo, hi))
+}
+
+/// The variable that a line declares behind the word `var`.
+#[tactic(auto, unfolding(crate::specs::Reading::variable_at))]
+pub fn read_variable(
+    alloc: Global,
+    bytes: &[u8],
+    in_proof: bool,
+    names: &Names,
+    at: usize,
+) -> Result<Var, ReadError>
+    requires { at ≤ length bytes.now }
+    ensures exact { Gives result (variable_at in_proof bytes.now names.now at) }
+    ensures free { IfOk result (λ var. position (bytes_eq var.name) names.now ≡ None) }
+{
+    let (from, to, lo, hi) = read_declaration(bytes, in_proof, names, at)?;
+    let name = Vec::from_slice(alloc, &bytes[from..to])?;
+    Ok(Var::new(Name::new(name), lo, hi))
 }

@@ -3,11 +3,13 @@
 
 mod class;
 mod declaration;
+mod draft;
 mod fault;
 mod laws;
 mod lines;
 mod names;
 mod push;
+mod query;
 mod refusal;
 mod run;
 mod side;
@@ -19,6 +21,7 @@ pub use fault::{SessionFault, SessionKind, TextFault, TextKind};
 pub use laws::{written_is_spelled, written_is_spelled_within};
 pub use lines::next_line;
 pub use push::{push_integer, push_number, push_str};
+pub use query::read_query;
 pub use small::read_small;
 pub use token::{Token, TokenKind, next_token};
 pub use write::write_query;

@@ -16,7 +16,9 @@ fn is_skipped(bytes: &[u8]) -> bool
 /// The start of the line below the one that goes through `at`, or the input's length.
 pub fn line_below(bytes: &[u8], at: usize) -> usize
     requires { at ≤ length bytes.now }
-    ensures { result ≡ line_below bytes.now at }
+    ensures start { result ≡ line_below bytes.now at }
+    ensures within { result ≤ length bytes.now }
+    ensures further { at < length bytes.now → at < result }
 {
     let end = at + run_length(Run::Line, bytes_from(bytes, at));
     if end < bytes.len() {
@@ -31,6 +33,7 @@ pub fn first_line(bytes: &[u8], at: usize) -> usize
     requires { at ≤ length bytes.now }
     ensures start { result ≡ line_from bytes.now at }
     ensures within { result ≤ length bytes.now }
+    ensures ahead { at ≤ result }
 {
     let mut start = at;
     while start < bytes.len() && is_skipped(bytes_from(bytes, start)) {
@@ -50,20 +53,20 @@ pub fn next_line(bytes: &[u8], at: usize) -> usize
 }
 
 /// The number of the line on which the place lies, from 1.
+#[tactic(auto, using(std::proofs::lemmas::List::take_min))]
 pub fn line_number(bytes: &[u8], at: usize) -> u64
-    requires { at ≤ length bytes.now }
     ensures { result ≡ line_number bytes.now at }
 {
-    1 + bytes[..at].iter().filter(|byte| is_feed(**byte)).count() as u64
+    1 + bytes[..at.min(bytes.len())].iter().filter(|byte| is_feed(**byte)).count() as u64
 }
 
 /// How many bytes stand on the line before the place, and 1.
+#[tactic(auto, using(std::proofs::lemmas::List::take_min))]
 pub fn column(bytes: &[u8], at: usize) -> u64
-    requires { at ≤ length bytes.now }
     ensures { result ≡ column bytes.now at }
 {
     let mut column = 1;
-    for byte in &bytes[..at] {
+    for byte in &bytes[..at.min(bytes.len())] {
         column = if is_feed(*byte) { 1 } else { column + 1 };
     }
     column

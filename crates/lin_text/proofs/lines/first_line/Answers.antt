@@ -5,7 +5,8 @@ use Rattle.lin_text.proofs.lines.first_line.Goals as goal
 pub loop-start-preserved : goal.loop-start-preserved
 loop-start-preserved c = record {
   within = omega arith;
-  same = line_from-below c.args.bytes.now c.bytes_from.result.now c.loop-start.start c.line_below-start.result c.loop-start.invariant.within c.line_below-start.ensures c.bytes_from.ensures (sym c.is_skipped.ensures ∙ c.if-is_skipped.true) ∙ c.loop-start.invariant.same;
+  ahead = omega (arith, c.line_below-start.ensures.further (omega arith), c.loop-start.invariant.ahead);
+  same = line_from-below c.args.bytes.now c.bytes_from.result.now c.loop-start.start c.line_below-start.result c.loop-start.invariant.within c.line_below-start.ensures.start c.bytes_from.ensures (sym c.is_skipped.ensures ∙ c.if-is_skipped.true) ∙ c.loop-start.invariant.same;
 }
 
 pub returns-else-is_skipped-clause-start : goal.returns-else-is_skipped-clause-start
