@@ -1,0 +1,10 @@
+//! What closes a box, what a tree refutes, and that a refuted key has no integer point.
+#![tactic(auto)]
+
+mod leaf;
+mod node;
+mod side;
+
+pub use leaf::{LeafTerm, On};
+pub use node::Node;
+pub use side::Side;
