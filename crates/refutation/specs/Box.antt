@@ -2,6 +2,7 @@
 use Rattle.std.specs.Prelude.{◌≡◌, ℕ, ℤ, pos, ◌+ℤ◌, ◌-ℤ◌, Bool, true, false, Option, Some, None, IfSome, List, [], ◌∷◌, ◌++◌, slice_get}
 use Rattle.std.specs.List.{All}
 use Rattle.std.specs.Option.{option_map}
+use Rattle.lin_model.specs.declared.op.Op.{Op}
 use Rattle.lin_model.specs.declared.op.Op.TheVariants.{Le, Ge, Eq, Ne}
 use Rattle.lin_model.specs.KeyAtom.{PlainKeyAtom, KeyAtomHolds}
 use Rattle.refutation.specs.declared.side.Side.{Side}
@@ -31,8 +32,14 @@ pub record IsInBox (key : List PlainKeyAtom) (box : PlainBox) (point : List ℤ)
   pub on_sides : All (λ side. IfSome (side_atom key side) (λ a. KeyAtomHolds a point)) box.sides
 
 -- the op of an atom `form != c`
+abbrev pub is_ne_op : Op → Bool
+is_ne_op Le = false
+is_ne_op Ge = false
+is_ne_op Eq = false
+is_ne_op Ne = true
+
 abbrev pub is_ne : PlainKeyAtom → Bool
-is_ne a = elim a.op [ Le ↦ false | Ge ↦ false | Eq ↦ false | Ne ↦ true ]
+is_ne a = is_ne_op a.op
 
 -- ---- the two halves of a split
 
