@@ -5,3 +5,4 @@ pub mod Points
 pub mod Sums
 pub mod Closing
 pub mod Soundness
+pub mod BoundsLemmas

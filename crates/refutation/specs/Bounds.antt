@@ -69,14 +69,21 @@ tighter_upper None o = o
 tighter_upper (Some x) None = Some x
 tighter_upper (Some x) (Some y) = Some (int_min x y)
 
+-- the sides of the variable v that an atom gives
+abbrev pub lower_from : PlainKeyAtom → ℕ → Option ℤ
+lower_from a v = if is_variable a.form v then lower_by a.op a.constant else None
+
+abbrev pub upper_from : PlainKeyAtom → ℕ → Option ℤ
+upper_from a v = if is_variable a.form v then upper_by a.op a.constant else None
+
 -- the tightest lower and upper side of the variable v among those that the atoms give
 abbrev pub lower_bound : List PlainKeyAtom → ℕ → Option ℤ
 lower_bound [] v = None
-lower_bound (a ∷ atoms) v = tighter_lower (if is_variable a.form v then lower_by a.op a.constant else None) (lower_bound atoms v)
+lower_bound (a ∷ atoms) v = tighter_lower (lower_from a v) (lower_bound atoms v)
 
 abbrev pub upper_bound : List PlainKeyAtom → ℕ → Option ℤ
 upper_bound [] v = None
-upper_bound (a ∷ atoms) v = tighter_upper (if is_variable a.form v then upper_by a.op a.constant else None) (upper_bound atoms v)
+upper_bound (a ∷ atoms) v = tighter_upper (upper_from a v) (upper_bound atoms v)
 
 -- the bounds of a key
 unfoldable pub key_bounds : List PlainKeyAtom → PlainBounds

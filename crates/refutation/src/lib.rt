@@ -1,10 +1,13 @@
 //! What closes a box, what a tree refutes, and that a refuted key has no integer point.
 #![tactic(auto)]
 
+mod bounds;
 mod leaf;
 mod node;
 mod side;
+mod value;
 
+pub use bounds::Bounds;
 pub use leaf::{LeafTerm, On};
 pub use node::Node;
 pub use side::Side;
