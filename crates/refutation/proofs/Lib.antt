@@ -6,3 +6,4 @@ pub mod Sums
 pub mod Closing
 pub mod Soundness
 pub mod BoundsLemmas
+pub mod SumLemmas

@@ -5,6 +5,7 @@ mod bounds;
 mod leaf;
 mod node;
 mod side;
+mod sum;
 mod value;
 
 pub use bounds::Bounds;
