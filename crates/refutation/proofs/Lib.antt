@@ -3,7 +3,8 @@ pub mod Arithmetic
 pub mod Tests
 pub mod Points
 pub mod Sums
-pub mod Closing
+pub mod ClosedBoxes
 pub mod Soundness
 pub mod BoundsLemmas
 pub mod SumLemmas
+pub mod LeafLemmas

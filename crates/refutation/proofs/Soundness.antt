@@ -11,7 +11,7 @@ use Rattle.refutation.specs.Leaf.{combo, fixed, empty, closes}
 use Rattle.refutation.specs.Reading.{Treated, treated, closed_by, is_split, names_ne, Ending, refuted, fails_at, ends_early, goes_on, reading, Refutes, HasNoPoint}
 use Rattle.refutation.proofs.Tests.{and_true, chosen}
 use Rattle.refutation.proofs.Points.{root_box-has, split-covers, sides-cover}
-use Rattle.refutation.proofs.Closing.{AreNarrow, closes-none, IsKey-narrow}
+use Rattle.refutation.proofs.ClosedBoxes.{AreNarrow, closes-none, IsKey-narrow}
 
 -- one of the boxes has the point
 SomeBox : List PlainKeyAtom → List ℤ → List PlainBox → Type 0

@@ -7,6 +7,8 @@ use Rattle.lin_model.specs.declared.op.Op.{Op}
 use Rattle.lin_model.specs.declared.op.Op.TheVariants.{Le, Ge, Eq, Ne}
 use Rattle.lin_model.specs.KeyAtom.{PlainKeyAtom}
 use Rattle.lin_model.specs.Test.{passes}
+use Rattle.refutation.specs.declared.leaf.Leaf.{Leaf}
+use Rattle.refutation.specs.declared.leaf.Leaf.TheVariants.{Combo, Fixed, Empty}
 use Rattle.refutation.specs.declared.leaf.LeafTerm.{LeafTerm}
 use Rattle.refutation.specs.declared.leaf.On.{On}
 use Rattle.refutation.specs.declared.leaf.On.TheVariants.{Atom as OnAtom, Side as OnSide}
@@ -52,10 +54,13 @@ pub record Multiple : Type 0 where
   pub constant : ℤ
   pub weight : ℤ
 
+-- the multiple that a factor of an atom stands for
+abbrev pub weighted : PlainKeyAtom → ℤ → Option Multiple
+weighted a f = option_map (λ w. record { form = a.form; constant = a.constant; weight = w }) (weight a.op f)
+
 -- the multiple that a term stands for, None where it names nothing or its factor isn't lawful
 abbrev pub multiple_of : List PlainKeyAtom → List Side → LeafTerm → Option Multiple
-multiple_of key sides term =
-    option_and_then (λ (a : PlainKeyAtom). option_map (λ w. record { form = a.form; constant = a.constant; weight = w }) (weight a.op term.factor)) (named key sides term.on)
+multiple_of key sides term = option_and_then (λ a. weighted a term.factor) (named key sides term.on)
 
 -- those of all the terms, None where one has none
 abbrev pub multiples_of : List PlainKeyAtom → List Side → List LeafTerm → Option (List Multiple)
@@ -101,6 +106,12 @@ abbrev pub closes : List PlainKeyAtom → PlainBox → PlainLeaf → Bool
 closes key box (combo terms) = combo_closes key box terms
 closes key box (fixed i) = fixed_closes key box.bounds i
 closes key box empty = is_empty box.bounds
+
+-- a leaf of the code as its parts
+abbrev pub leaf_of : Leaf → PlainLeaf
+leaf_of (Combo terms) = combo terms.items
+leaf_of (Fixed i) = fixed i
+leaf_of Empty = empty
 
 -- the leaf closes the box
 abbrev pub Closes : List PlainKeyAtom → PlainBox → PlainLeaf → Type 0

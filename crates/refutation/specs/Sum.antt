@@ -1,5 +1,5 @@
 -- The code's form of a sum of multiples: one coefficient for each variable.
-use Rattle.std.specs.Prelude.{◌≡◌, ℕ, ◌+◌, ◌*◌, ◌^◌, ◌<◌, ◌≤◌, ℤ, pos, ◌+ℤ◌, ◌-ℤ◌, ◌*ℤ◌, Bool, false, int_lt, List, map, length, unsigned_abs, slice_index_or}
+use Rattle.std.specs.Prelude.{◌≡◌, ℕ, ◌+◌, ◌*◌, ◌^◌, ◌<◌, ◌≤◌, ℤ, pos, ◌+ℤ◌, ◌-ℤ◌, ◌*ℤ◌, Bool, true, false, int_lt, Option, Some, None, List, map, length, unsigned_abs, slice_index_or}
 use Rattle.std.specs.Option.{option_map_or}
 use Rattle.lin_model.specs.declared.form.FormTerm.{FormTerm}
 use Rattle.refutation.specs.Bounds.{PlainBounds, variables, least}
@@ -27,6 +27,11 @@ pub record AddsMultiple (old new : PlainSum) (m : Multiple) : Type 0 where
   pub coefs : (v : ℕ) → v < 64 → coef_at new v ≡ coef_at old v +ℤ (m.weight *ℤ coefficient_of m.form v)
   pub constant : new.constant ≡ old.constant +ℤ (m.weight *ℤ m.constant)
   pub count : new.count ≡ old.count + 1
+
+-- one multiple is there, and the new sum has it more; where it isn't, there is no word of the new sum
+abbrev pub AddsIfSome : Option Multiple → PlainSum → PlainSum → Bool → Type 0
+AddsIfSome None old new added = added ≡ false
+AddsIfSome (Some m) old new added = (added ≡ true) × AddsMultiple old new m
 
 -- a sum of at most eight multiples, each within the limits of a leaf
 pub record IsSum (s : PlainSum) : Type 0 where

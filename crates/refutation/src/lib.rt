@@ -2,6 +2,7 @@
 #![tactic(auto)]
 
 mod bounds;
+mod closing;
 mod leaf;
 mod node;
 mod side;
@@ -9,6 +10,7 @@ mod sum;
 mod value;
 
 pub use bounds::Bounds;
-pub use leaf::{LeafTerm, On};
+pub use closing::closes;
+pub use leaf::{Leaf, LeafTerm, On};
 pub use node::Node;
 pub use side::Side;

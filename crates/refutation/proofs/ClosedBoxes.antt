@@ -18,7 +18,7 @@ use Rattle.refutation.specs.declared.leaf.On.{On}
 use Rattle.refutation.specs.declared.leaf.On.TheVariants.{Atom as OnAtom, Side as OnSide}
 use Rattle.refutation.specs.Bounds.{PlainBounds, lower_of, upper_of, variables, crosses, is_empty, least, greatest, IsWithin}
 use Rattle.refutation.specs.Box.{PlainBox, beside, side_atom, IsInBox}
-use Rattle.refutation.specs.Leaf.{PlainLeaf, combo, fixed, empty, named, is_factor, is_positive_factor, weight, Multiple, multiple_of, multiples_of, summed_constant, summed_form, is_positive_sum, combo_closes, fails_fixed, fixed_closes, closes}
+use Rattle.refutation.specs.Leaf.{PlainLeaf, combo, fixed, empty, named, is_factor, is_positive_factor, weight, weighted, Multiple, multiple_of, multiples_of, summed_constant, summed_form, is_positive_sum, combo_closes, fails_fixed, fixed_closes, closes}
 use Rattle.refutation.proofs.Arithmetic.{scale_up, scale_down}
 use Rattle.refutation.proofs.Points.{int_eq-same}
 use Rattle.refutation.proofs.Tests.{and_true, or_true, not_both, chosen, test_found, bound_some, mapped_some, All-at}
@@ -119,7 +119,7 @@ record IsSound (point : List ℤ) (m : Multiple) : Type 0 where
 
 multiple-sound : (key : List PlainKeyAtom) (box : PlainBox) (term : LeafTerm) (m : Multiple) (point : List ℤ) → AreNarrow key → KeyHolds key point → IsInBox key box point → multiple_of key box.sides term ≡ Some m → IsSound point m
 multiple-sound key box term m point narrow holds h is =
-    let found = bound_some (named key box.sides term.on) (λ (a : PlainKeyAtom). option_map (λ w. record { form = a.form; constant = a.constant; weight = w }) (weight a.op term.factor)) m is in
+    let found = bound_some (named key box.sides term.on) (λ a. weighted a term.factor) m is in
     let a = found.0 in
     let weighed = mapped_some (weight a.op term.factor) (λ w. record { form = a.form; constant = a.constant; weight = w }) m found.2 in
     subst (IsSound point) weighed.2 (record {
