@@ -1,3 +1,7 @@
+pub mod Names
+pub mod Terms
+pub mod Truth
+pub mod Conditions
 pub mod Test
 pub mod Form
 pub mod KeyAtom

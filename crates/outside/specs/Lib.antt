@@ -1,0 +1,5 @@
+pub mod Counts
+pub mod Bytes
+pub mod Crash
+pub mod MemSource
+pub mod MemSink

@@ -1,2 +1,26 @@
 //! The world as traits: sources, sinks, disks and gates, each with a count of its faults.
 #![tactic(auto)]
+
+mod disk;
+mod errors;
+mod gate;
+mod mem_sink;
+mod mem_source;
+mod no_disk;
+mod sink;
+mod source;
+mod std_sink;
+mod std_source;
+#[cfg(test)]
+mod tests;
+
+pub use disk::Disk;
+pub use errors::{Failed, NoMemory};
+pub use gate::{Gate, NoGate};
+pub use mem_sink::MemSink;
+pub use mem_source::MemSource;
+pub use no_disk::NoDisk;
+pub use sink::Sink;
+pub use source::Source;
+pub use std_sink::StdSink;
+pub use std_source::StdSource;

@@ -1,0 +1,39 @@
+-- What was read of a source that tells its bytes. Of one that tells none, nothing is said.
+use Rattle.std.specs.Prelude.{◌≡◌, ℕ, ◌+◌, ◌≤◌, List, [], ◌++◌, length, Option, Some, None, IfSome}
+use Rattle.lin_model.specs.Conditions.{PlainCondition}
+use Rattle.lin_text.specs.Small.{SpellsSmall, single}
+
+-- the most bytes of an input
+abbrev pub max_input : ℕ
+max_input = 16777216
+
+-- these bytes were taken from the front of what was left
+abbrev pub Consumes : Option (List ℕ) → Option (List ℕ) → List ℕ → Type 0
+Consumes None new bytes = new ≡ None
+Consumes (Some all) new bytes = (rest : List ℕ) × (all ≡ bytes ++ rest) × (new ≡ Some rest)
+
+-- all that was left was taken, and it is these bytes, not too many
+pub record WasRead (old new : Option (List ℕ)) (bytes : List ℕ) : Type 0 where
+  pub whole : IfSome old (λ all. all ≡ bytes)
+  pub at_end : IfSome new (λ rest. rest ≡ [])
+  pub short : length bytes ≤ max_input
+
+-- the input, read to its end, is a small session with the query of this session
+pub record InputWasRead (old new : Option (List ℕ)) (session : List (List PlainCondition)) : Type 0 where
+  pub bytes : List ℕ
+  pub read : WasRead old new bytes
+  pub query : PlainCondition
+  pub only : session ≡ single query
+  pub spells : SpellsSmall bytes query
+
+-- the input, read to its end, is no small session
+pub record InputIsLater (old new : Option (List ℕ)) : Type 0 where
+  pub bytes : List ℕ
+  pub read : WasRead old new bytes
+  pub none : (q : PlainCondition) → ¬ SpellsSmall bytes q
+
+-- the source gave one byte more than an input may have, and was asked no further
+pub record InputIsTooLong (old new : Option (List ℕ)) : Type 0 where
+  pub bytes : List ℕ
+  pub given : Consumes old new bytes
+  pub long : length bytes ≡ max_input + 1

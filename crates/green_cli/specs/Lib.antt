@@ -1,0 +1,5 @@
+pub mod Answers
+pub mod AnswersText
+pub mod Input
+pub mod Solve
+pub mod Statuses

@@ -1,0 +1,162 @@
+//! Writing: the plain spelling of a condition.
+ghost use Rattle.std.specs.Prelude.{◌≡◌, ◌++◌, IfOk, OnOk, flat_map};
+ghost use Rattle.lin_text.specs.Spelling.{condition_text, line, var_text, atom_text, side_text, first_term, later_term, joint_of, size_text, factor_text, name_of, cmp_text, bounds_text};
+
+use crate::push::{minus, push_integer, push_number, push_str};
+use lin_model::{Atom, Cmp, Condition, Expr, Term, Var};
+use outside::NoMemory;
+use std::alloc::Global;
+
+/// The plain spelling of a condition: each declaration `var NAME LO HI`, and then each comparison
+/// `LEFT CMP RIGHT`, in order, each on a line of its own that a line feed ends.
+#[tactic(auto, unfolding(crate::specs::Spelling::condition_text))]
+pub fn write_query(alloc: Global, c: &Condition) -> Result<Vec<u8>, NoMemory>
+    ensures { IfOk result (λ text. text.items ≡ condition_text c.now) }
+{
+    let mut out = Vec::new(alloc);
+    push_vars(&mut out, c.vars())?;
+    push_atoms(&mut out, c.vars(), c.atoms())?;
+    Ok(out)
+}
+
+fn push_vars(out: &mut Vec<u8>, vars: &[Var]) -> Result<(), NoMemory>
+    ensures { OnOk result (out.new.items ≡ out.old.items ++ flat_map (λ var. line (var_text var)) vars.now) }
+{
+    for var in vars {
+        push_var(out, var)?;
+        out.push(b'\n')?;
+    }
+    Ok(())
+}
+
+#[tactic(auto, unfolding(crate::specs::Spelling::var_text))]
+fn push_var(out: &mut Vec<u8>, var: &Var) -> Result<(), NoMemory>
+    ensures { OnOk result (out.new.items ≡ out.old.items ++ var_text var.now) }
+{
+    push_str(out, "var ")?;
+    out.extend_from_slice(var.name().as_bytes())?;
+    push_bounds(out, var.lo(), var.hi())
+}
+
+#[tactic(auto, unfolding(crate::specs::Spelling::bounds_text))]
+fn push_bounds(out: &mut Vec<u8>, lo: i64, hi: i64) -> Result<(), NoMemory>
+    ensures { OnOk result (out.new.items ≡ out.old.items ++ bounds_text lo hi) }
+{
+    push_str(out, " ")?;
+    push_integer(out, lo)?;
+    push_str(out, " ")?;
+    push_integer(out, hi)
+}
+
+fn push_atoms(out: &mut Vec<u8>, vars: &[Var], atoms: &[Atom]) -> Result<(), NoMemory>
+    ensures { OnOk result (out.new.items ≡ out.old.items ++ flat_map (λ atom. line (atom_text vars.now atom)) atoms.now) }
+{
+    for atom in atoms {
+        push_atom(out, vars, atom)?;
+        out.push(b'\n')?;
+    }
+    Ok(())
+}
+
+#[tactic(auto, unfolding(crate::specs::Spelling::atom_text))]
+fn push_atom(out: &mut Vec<u8>, vars: &[Var], atom: &Atom) -> Result<(), NoMemory>
+    ensures { OnOk result (out.new.items ≡ out.old.items ++ atom_text vars.now atom.now) }
+{
+    push_side(out, vars, &atom.left)?;
+    push_str(out, " ")?;
+    push_str(out, cmp_sign(atom.cmp))?;
+    push_str(out, " ")?;
+    push_side(out, vars, &atom.right)
+}
+
+#[tactic(auto, unfolding(crate::specs::Spelling::cmp_text))]
+fn cmp_sign(cmp: Cmp) -> &'static str
+    ensures { result.now ≡ cmp_text cmp }
+{
+    match cmp {
+        Cmp::Le => "<=",
+        Cmp::Lt => "<",
+        Cmp::Ge => ">=",
+        Cmp::Gt => ">",
+        Cmp::Eq => "=",
+        Cmp::Ne => "!=",
+    }
+}
+
+#[tactic(auto, unfolding(crate::specs::Spelling::side_text))]
+fn push_side(out: &mut Vec<u8>, vars: &[Var], side: &Expr) -> Result<(), NoMemory>
+    ensures { OnOk result (out.new.items ≡ out.old.items ++ side_text vars.now side.now) }
+{
+    match side.terms() {
+        [] => Ok(()),
+        [first, others @ ..] => {
+            push_first_term(out, vars, first)?;
+            push_later_terms(out, vars, others)
+        }
+    }
+}
+
+#[tactic(auto, unfolding(crate::specs::Spelling::first_term))]
+fn push_first_term(out: &mut Vec<u8>, vars: &[Var], term: &Term) -> Result<(), NoMemory>
+    ensures { OnOk result (out.new.items ≡ out.old.items ++ first_term vars.now term.now) }
+{
+    push_str(out, minus(term.factor()))?;
+    push_size(out, vars, term.factor().unsigned_abs(), term.var())
+}
+
+fn push_later_terms(out: &mut Vec<u8>, vars: &[Var], terms: &[Term]) -> Result<(), NoMemory>
+    ensures { OnOk result (out.new.items ≡ out.old.items ++ flat_map (later_term vars.now) terms.now) }
+{
+    for term in terms {
+        push_later_term(out, vars, term)?;
+    }
+    Ok(())
+}
+
+#[tactic(auto, unfolding(crate::specs::Spelling::later_term))]
+fn push_later_term(out: &mut Vec<u8>, vars: &[Var], term: &Term) -> Result<(), NoMemory>
+    ensures { OnOk result (out.new.items ≡ out.old.items ++ later_term vars.now term.now) }
+{
+    push_str(out, joint(term.factor()))?;
+    push_size(out, vars, term.factor().unsigned_abs(), term.var())
+}
+
+#[tactic(auto, unfolding(crate::specs::Spelling::joint_of))]
+fn joint(factor: i64) -> &'static str
+    ensures { result.now ≡ joint_of factor }
+{
+    if factor < 0 { " - " } else { " + " }
+}
+
+#[tactic(auto, unfolding(crate::specs::Spelling::size_text))]
+fn push_size(out: &mut Vec<u8>, vars: &[Var], size: u64, var: Option<u32>) -> Result<(), NoMemory>
+    ensures { OnOk result (out.new.items ≡ out.old.items ++ size_text vars.now size var) }
+{
+    match var {
+        None => push_number(out, size),
+        Some(var) => {
+            push_factor(out, size)?;
+            push_name(out, vars, var)
+        }
+    }
+}
+
+#[tactic(auto, unfolding(crate::specs::Spelling::factor_text))]
+fn push_factor(out: &mut Vec<u8>, size: u64) -> Result<(), NoMemory>
+    ensures { OnOk result (out.new.items ≡ out.old.items ++ factor_text size) }
+{
+    if size == 1 {
+        return Ok(());
+    }
+    push_number(out, size)?;
+    push_str(out, "*")
+}
+
+fn push_name(out: &mut Vec<u8>, vars: &[Var], var: u32) -> Result<(), NoMemory>
+    ensures { OnOk result (out.new.items ≡ out.old.items ++ name_of vars.now var) }
+{
+    if let Some(var) = vars.get(var as usize) {
+        out.extend_from_slice(var.name().as_bytes())?;
+    }
+    Ok(())
+}

@@ -1,0 +1,15 @@
+//! A place at which a test can hold an executor up.
+
+/// Is passed once in each flight, after the flight has begun and outside the store's locks.
+pub trait Gate {
+    /// The executor with this seat (from 0) is about to solve.
+    fn before_solve(&self, seat: u32);
+}
+
+/// The program's gate: it does nothing.
+#[derive(Clone, Copy, Debug, PartialEq, Eq)]
+pub struct NoGate;
+
+impl Gate for NoGate {
+    fn before_solve(&self, _seat: u32) {}
+}

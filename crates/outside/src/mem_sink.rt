@@ -1,0 +1,105 @@
+//! A sink in memory that fails at the calls that it is told to fail at.
+ghost use Rattle.std.specs.Prelude.{◌≡◌, ◌+◌, ◌/◌, ◌<◌, ◌≤◌, ◌⊎◌, [], ◌++◌, length, take, Some, Contains, OnOk, OnErr, IsErr};
+ghost use Rattle.outside.specs.Bytes.{Appends, AppendsFront};
+ghost use Rattle.outside.specs.Counts.{raised, Rose, HasCause};
+ghost use Rattle.outside.specs.MemSink.{sink_faults};
+
+use crate::{Failed, Sink};
+use std::alloc::Global;
+use std::marker::Model;
+
+/// A list of bytes that grows, with a list of the numbers of the calls that are to fail, counted from 0. It tells the
+/// bytes taken, and its count of faults is the number of listed calls that were made, and of calls refused for want
+/// of memory.
+#[derive(Debug, Drop)]
+pub struct MemSink {
+    taken: Vec<u8>,
+    failing: Vec<u64>,
+    calls: u64,
+    listed: u64,
+    starved: u64,
+}
+
+impl Model for MemSink {
+    ghost use Rattle.outside.specs.MemSink.{MemSinkState};
+
+    ghost Value = { MemSinkState };
+
+    ghost view = { λ s. record { taken = s.taken.items; failing = s.failing.items; calls = s.calls; listed = s.listed; starved = s.starved } };
+}
+
+impl MemSink {
+    /// An empty sink, with no call made yet. It takes no memory before the first write.
+    pub fn new(alloc: Global, failing: Vec<u64>) -> MemSink
+        ensures { result ≡ record { taken = []; failing = failing.items; calls = 0; listed = 0; starved = 0 } }
+    {
+        MemSink {
+            taken: Vec::new(alloc),
+            failing,
+            calls: 0,
+            listed: 0,
+            starved: 0,
+        }
+    }
+
+    /// The bytes taken.
+    pub fn bytes(&self) -> &[u8]
+        ensures { result.now ≡ self.now.taken }
+    {
+        &self.taken
+    }
+
+    /// How many calls were refused for want of memory. The count stands still at 2^64 - 1.
+    pub fn starved(&self) -> u64
+        ensures { result ≡ self.now.starved }
+    {
+        self.starved
+    }
+}
+
+impl Sink for MemSink {
+    ghost taken = { λ sink. Some sink.taken };
+
+    ghost faults = { sink_faults };
+
+    /// Fails where the call's number is listed, and then takes the first half of the piece, rounded down. It fails
+    /// too where memory ran out, and then takes nothing, also where it is listed.
+    fn write(&mut self, piece: &[u8]) -> Result<(), Failed>
+        ensures whole { OnOk result (Appends (Some self.old.taken) (Some self.new.taken) piece.now) }
+        ensures front { OnErr result (AppendsFront (Some self.old.taken) (Some self.new.taken) piece.now) }
+        ensures cause { HasCause (sink_faults self.old) (sink_faults self.new) result }
+
+        // When it fails.
+        ensures listed_fails { Contains self.old.failing self.old.calls → IsErr result }
+        ensures starved_fails { self.old.starved < self.new.starved → IsErr result }
+        ensures else_succeeds { OnErr result (Contains self.old.failing self.old.calls ⊎ Rose self.old.starved self.new.starved) }
+
+        // What a write that fails takes.
+        ensures half { Contains self.old.failing self.old.calls → ¬ Rose self.old.starved self.new.starved
+            → self.new.taken ≡ self.old.taken ++ take (length piece.now / 2) piece.now }
+        ensures nothing { self.old.starved < self.new.starved → self.new.taken ≡ self.old.taken }
+
+        // The counts.
+        ensures failing { self.new.failing ≡ self.old.failing }
+        ensures calls { self.new.calls ≡ raised self.old.calls }
+        ensures counted { Contains self.old.failing self.old.calls → self.new.listed ≡ raised self.old.listed }
+        ensures not_counted { ¬ Contains self.old.failing self.old.calls → self.new.listed ≡ self.old.listed }
+        ensures starved { (self.new.starved ≡ self.old.starved) ⊎ (self.new.starved ≡ raised self.old.starved) }
+    {
+        let call = self.calls;
+        self.calls = call.saturating_add(1);
+        if self.failing.contains(&call) {
+            self.listed = self.listed.saturating_add(1);
+            let half = &piece[..piece.len() / 2];
+            if self.taken.extend_from_slice(half).is_err() {
+                self.starved = self.starved.saturating_add(1);
+            }
+            return Err(Failed);
+        }
+        if self.taken.extend_from_slice(piece).is_err() {
+            self.starved = self.starved.saturating_add(1);
+            return Err(Failed);
+        }
+        Ok(())
+    }
+}

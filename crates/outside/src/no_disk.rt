@@ -1,0 +1,103 @@
+//! No disk at all.
+ghost use Rattle.std.specs.Prelude.{◌≡◌, ℕ, false, ⊤, None, IsErr};
+ghost use Rattle.std.proofs.Common.{rules};
+ghost use Rattle.outside.specs.Counts.{raised, HasCause};
+
+use crate::{Disk, Failed};
+use std::marker::Model;
+
+/// A disk whose calls all fail. Contracts see it as its count of faults, and it tells nothing else.
+#[derive(Debug, Drop)]
+pub struct NoDisk {
+    faults: u64,
+}
+
+impl Model for NoDisk {
+    ghost Value = { ℕ };
+
+    ghost view = { λ disk. disk.faults };
+}
+
+impl NoDisk {
+    /// It has not failed yet.
+    pub fn new() -> NoDisk
+        ensures { result ≡ 0 }
+    {
+        NoDisk { faults: 0 }
+    }
+
+    fn fail<T>(&mut self) -> Result<T, Failed>
+        ensures failed { IsErr result }
+        ensures counted { self.new ≡ raised self.old }
+        ensures cause { HasCause self.old self.new result }
+    {
+        self.faults = self.faults.saturating_add(1);
+        Err(Failed)
+    }
+}
+
+impl Disk for NoDisk {
+    ghost bound_name = { λ _. None };
+
+    ghost content = { λ _. None };
+
+    ghost tells_images = { λ _. false };
+
+    ghost keeps_rules = { λ _. false };
+
+    ghost may_leave = { λ _ _. ⊤ };
+
+    ghost moment = { λ _. 0 };
+
+    ghost left_since = { λ _ _ _. ⊤ };
+
+    ghost faults = { λ count. count };
+
+    ghost rules_are_told = { λ _ told. told };
+
+    ghost rules_tell_content = { Prim.search rules };
+
+    ghost counts_now = { Prim.search rules };
+
+    ghost only_now = { Prim.search rules };
+
+    fn bind(&mut self, _name: &str) -> Result<(), Failed>
+        ensures failed { IsErr result }
+        ensures counted { self.new ≡ raised self.old }
+        ensures cause { HasCause self.old self.new result }
+    {
+        self.fail::<()>()
+    }
+
+    fn len(&mut self) -> Result<u64, Failed>
+        ensures failed { IsErr result }
+        ensures counted { self.new ≡ raised self.old }
+        ensures cause { HasCause self.old self.new result }
+    {
+        self.fail::<u64>()
+    }
+
+    fn read_at(&mut self, _at: u64, _buf: &mut [u8]) -> Result<usize, Failed>
+        ensures failed { IsErr result }
+        ensures counted { self.new ≡ raised self.old }
+        ensures cause { HasCause self.old self.new result }
+    {
+        self.fail::<usize>()
+    }
+
+    fn write_at(&mut self, _at: u64, _bytes: &[u8]) -> Result<(), Failed>
+        ensures failed { IsErr result }
+        ensures counted { self.new ≡ raised self.old }
+        ensures cause { HasCause self.old self.new result }
+    {
+        self.fail::<()>()
+    }
+
+    fn sync(&mut self) -> Result<(), Failed>
+        ensures failed { IsErr result }
+        ensures counted { self.new ≡ raised self.old }
+        ensures cause { HasCause self.old self.new result }
+    {
+        self.fail::<()>()
+    }
+}

@@ -1,0 +1,67 @@
+//! A writer of std as a sink.
+ghost use Rattle.std.specs.Prelude.{◌≡◌, ℕ, None, if◌then◌else◌, is_err};
+ghost use Rattle.outside.specs.Counts.{raised, HasCause};
+
+use crate::{Failed, Sink};
+use std::io::{ErrorKind, Write};
+use std::marker::Model;
+
+/// Writes to a writer of std. It tells nothing of the bytes taken, and contracts see it as its count of faults.
+#[derive(Drop)]
+pub struct StdSink<W> {
+    writer: W,
+    faults: u64,
+}
+
+impl<W> Model for StdSink<W> {
+    ghost Value = { ℕ };
+
+    ghost view = { λ sink. sink.faults };
+}
+
+impl<W: Write> StdSink<W> {
+    /// A sink that has not failed yet.
+    pub fn new(writer: W) -> StdSink<W>
+        ensures { result ≡ 0 }
+    {
+        StdSink { writer, faults: 0 }
+    }
+}
+
+impl<W: Write> Sink for StdSink<W> {
+    ghost taken = { λ _. None };
+
+    ghost faults = { λ count. count };
+
+    /// Writes until the writer has taken the whole piece, and flushes it. A writer that takes nothing has failed, and
+    /// a call that a signal interrupted is made again. Only a fault raises the count, by one.
+    fn write(&mut self, piece: &[u8]) -> Result<(), Failed>
+        ensures cause { HasCause self.old self.new result }
+        ensures counted { self.new ≡ (if is_err result then raised self.old else self.old) }
+    {
+        let result = write_whole(&mut self.writer, piece);
+        if result.is_err() {
+            self.faults = self.faults.saturating_add(1);
+        }
+        result
+    }
+}
+
+fn write_whole<W: Write>(writer: &mut W, piece: &[u8]) -> Result<(), Failed> {
+    let mut rest = piece;
+    for _ in 0..u64::MAX {
+        if rest.is_empty() {
+            return writer.flush().map_err(|_| Failed);
+        }
+        match writer.write(rest) {
+            Ok(0) => return Err(Failed),
+            Ok(n) => rest = &rest[n..],
+            Err(error) => {
+                if error.kind() != ErrorKind::Interrupted {
+                    return Err(Failed);
+                }
+            }
+        }
+    }
+    Err(Failed)
+}
