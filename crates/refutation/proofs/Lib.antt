@@ -8,3 +8,4 @@ pub mod Soundness
 pub mod BoundsLemmas
 pub mod SumLemmas
 pub mod LeafLemmas
+pub mod WalkLemmas

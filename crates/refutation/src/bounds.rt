@@ -1,6 +1,6 @@
 //! Bounds: a lower and an upper side for each of 64 variables.
 
-ghost use Rattle.std.specs.Prelude.{◌≡◌, ◌==◌, if◌then◌else◌, false, MatchOption, None, replicate, ◌+◌, ◌^◌, ◌<◌, ◌≤◌, ℕ, ℤ, pos, IfSome, unsigned_abs};
+ghost use Rattle.std.specs.Prelude.{◌≡◌, ◌==◌, if◌then◌else◌, false, MatchOption, None, replicate, slice_set, ◌+◌, ◌^◌, ◌<◌, ◌≤◌, ℕ, ℤ, pos, IfSome, unsigned_abs};
 ghost use Rattle.lin_model.specs.KeyAtom.{AscendsBelow64};
 ghost use Rattle.refutation.specs.Bounds.{AreBounds, IsSide, lower_of, upper_of, lower_from, upper_from, is_variable, tighter_lower, tighter_upper, with_lower, with_upper, lower_side, upper_side, lower_by, upper_by, key_bounds, is_empty, crosses, least, greatest};
 
@@ -131,6 +131,24 @@ impl Bounds {
         ensures side { IsSide result }
     {
         self.hi[usize::from(var)]
+    }
+
+    /// Puts this side in the place of a variable's lower side.
+    pub fn set_lower(&mut self, var: u8, side: Option<i64>)
+        requires var { var < 64 }
+        requires side { IsSide side }
+        ensures { self.new ≡ record self.old { lower = slice_set self.old.lower var side } }
+    {
+        self.lo[usize::from(var)] = side;
+    }
+
+    /// Puts this side in the place of a variable's upper side.
+    pub fn set_upper(&mut self, var: u8, side: Option<i64>)
+        requires var { var < 64 }
+        requires side { IsSide side }
+        ensures { self.new ≡ record self.old { upper = slice_set self.old.upper var side } }
+    {
+        self.hi[usize::from(var)] = side;
     }
 
     /// Raises the lower side of a variable to `to`, unless it is tighter already.

@@ -7,7 +7,9 @@ mod leaf;
 mod node;
 mod side;
 mod sum;
+mod turn;
 mod value;
+mod walk;
 
 pub use bounds::Bounds;
 pub use closing::closes;
