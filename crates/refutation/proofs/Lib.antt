@@ -9,3 +9,4 @@ pub mod BoundsLemmas
 pub mod SumLemmas
 pub mod LeafLemmas
 pub mod WalkLemmas
+pub mod ReadingLemmas

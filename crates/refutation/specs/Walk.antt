@@ -47,7 +47,12 @@ MovesOn turn (Some next) box new = (other_half turn box ≡ new ∷ []) × (pare
 abbrev pub undecided : Bool → List Turn → PlainBox → List PlainBox
 undecided open_ turns box = if open_ then box ∷ waiting (reverse turns) box else []
 
--- what a node did: nothing, or it took the place of the first box and took n terms
+-- what a node did that is allowed or not: nothing, or it put boxes in the place of the first and took n terms
+abbrev pub Puts : Bool → List PlainBox → ℕ → Option ℕ → List PlainBox → List PlainBox → Type 0
+Puts false boxes n taken rest new = taken ≡ None
+Puts true boxes n taken rest new = (taken ≡ Some n) × (new ≡ boxes ++ rest)
+
+-- what a node did, by what the definition leaves of the first box
 abbrev pub Treats : Option Treated → List LeafTerm → Option ℕ → List PlainBox → List PlainBox → Type 0
 Treats None terms taken rest new = taken ≡ None
 Treats (Some r) terms taken rest new = (n : ℕ) × (taken ≡ Some n) × (n ≤ length terms) × (r.terms ≡ drop n terms) × (new ≡ r.boxes ++ rest)

@@ -64,7 +64,7 @@ fn fails_fixed(atom: &KeyAtom, least: Option<i128>, greatest: Option<i128>) -> b
 }
 
 /// The atom of this number in the key.
-fn atom_at(key: &Key, number: u16) -> Option<&KeyAtom>
+pub fn atom_at(key: &Key, number: u16) -> Option<&KeyAtom>
     ensures value { option_copied result ≡ slice_get key.now number }
     ensures canonical { IfSome result (λ a. IsCanonical a.now) }
 {

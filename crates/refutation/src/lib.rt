@@ -2,7 +2,9 @@
 #![tactic(auto)]
 
 mod bounds;
+mod checker;
 mod closing;
+mod fault;
 mod leaf;
 mod node;
 mod side;
@@ -12,7 +14,9 @@ mod value;
 mod walk;
 
 pub use bounds::Bounds;
+pub use checker::refutes;
 pub use closing::closes;
+pub use fault::TreeFault;
 pub use leaf::{Leaf, LeafTerm, On};
 pub use node::Node;
 pub use side::Side;

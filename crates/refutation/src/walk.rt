@@ -2,6 +2,7 @@
 
 ghost use Rattle.std.specs.Prelude.{◌≡◌, ◌^◌, ◌<◌, ◌≤◌, ◌↔◌, [], ◌∷◌, List, true, false, unsigned_abs, length, reverse, drop, IsTrue, IfOk, OnOk};
 ghost use Rattle.std.specs.List.{All};
+ghost use Rattle.lin_model.specs.Key.{IsKey};
 ghost use Rattle.refutation.specs.Box.{PlainBox, root_box, left_half, right_half, on_side};
 ghost use Rattle.refutation.specs.Leaf.{combo_closes, fixed_closes};
 ghost use Rattle.refutation.specs.Bounds.{is_empty};
@@ -42,7 +43,8 @@ impl Model for Walk {
 impl Walk {
     /// The root box of a key.
     pub fn new(alloc: Global, key: &Key) -> Walk
-        ensures { result ≡ root_box key.now ∷ [] }
+        ensures root { result ≡ root_box key.now ∷ [] }
+        ensures key { IsKey key.now }
     {
         Walk {
             open: true,
