@@ -104,7 +104,7 @@ pub key_bounds-from_each : (b : PlainBounds) (key : List PlainKeyAtom) → AreBo
 unfolding key_bounds variables
 key_bounds-from_each b key limits low high = λ i. record {
   lower = fill_by_all (lower_bound key) b.lower 64 None limits.lower_len low i;
-  upper = fill_by_all (upper_bound key) b.upper 64 None limits.upper_len high i
+  upper = fill_by_all (upper_bound key) b.upper 64 None limits.upper_len high i;
 }
 
 -- ---- values of forms
@@ -170,5 +170,5 @@ AreBounds-missing lo hi l h = record {
   lower_len = ap length l ∙ length-replicate {A = Option ℤ} 64 None;
   upper_len = ap length h ∙ length-replicate {A = Option ℤ} 64 None;
   lower_sides = All-same IsSide lo (replicate 64 None) l (All-replicate IsSide 64 None tt);
-  upper_sides = All-same IsSide hi (replicate 64 None) h (All-replicate IsSide 64 None tt)
+  upper_sides = All-same IsSide hi (replicate 64 None) h (All-replicate IsSide 64 None tt);
 }

@@ -124,14 +124,14 @@ multiple-sound key box term m point narrow holds h is =
     let weighed = mapped_some (weight a.op term.factor) (λ w. record { form = a.form; constant = a.constant; weight = w }) m found.2 in
     subst (IsSound point) weighed.2 (record {
       narrow = named-narrow key box.sides term.on a narrow found.1;
-      at_most = weight-holds a.op term.factor a.constant (form_value a.form point) weighed.0 weighed.1 (named-holds key box term.on a point holds h found.1)
+      at_most = weight-holds a.op term.factor a.constant (form_value a.form point) weighed.0 weighed.1 (named-holds key box term.on a point holds h found.1);
     })
 
 one_more : (m : Multiple) (ms : List Multiple) (point : List ℤ) → IsSound point m → AreSound point ms → AreSound point (m ∷ ms)
 unfolding total_of
 one_more m ms point first rest = record {
   narrow = All-cons (λ m. All (λ t. t.var < 64) m.form) m ms first.narrow rest.narrow;
-  at_most = omega (arith, ints, first.at_most, rest.at_most)
+  at_most = omega (arith, ints, first.at_most, rest.at_most);
 }
 
 multiples-sound : (key : List PlainKeyAtom) (box : PlainBox) (terms : List LeafTerm) (ms : List Multiple) (point : List ℤ) → AreNarrow key → KeyHolds key point → IsInBox key box point → multiples_of key box.sides terms ≡ Some ms → AreSound point ms

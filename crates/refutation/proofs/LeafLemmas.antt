@@ -109,7 +109,7 @@ IsSummed-more key sides terms i d old new added lt yes' before h =
       are = ap (multiples_of key sides) (take_more terms i d lt) ∙ multiples_of-push key sides (take i terms) (get_or terms i d) before.multiples one.0 before.are one.1;
       coefs = λ v lt. omega (arith, ints, one.2.coefs v lt, before.coefs v lt, summed_coefficient-push before.multiples one.0 v);
       constant = omega (arith, ints, one.2.constant, before.constant, summed_constant-push before.multiples one.0);
-      count = omega (arith, one.2.count, before.count, length-take i terms, length-take (i + 1) terms)
+      count = omega (arith, one.2.count, before.count, length-take i terms, length-take (i + 1) terms);
     }
 
 pub multiples_of-fails : (key : List PlainKeyAtom) (sides : List Side) (terms : List LeafTerm) (i : ℕ) (d : LeafTerm) (old new : PlainSum) (added : Bool) → i < length terms → added ≡ false → AddsIfSome (multiple_of key sides (get_or terms i d)) old new added → multiples_of key sides terms ≡ None

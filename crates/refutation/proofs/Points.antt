@@ -121,7 +121,7 @@ pub key_bounds-within : (key : List PlainKeyAtom) (point : List ℤ) → KeyHold
 unfolding key_bounds
 key_bounds-within key point holds = record {
   above = λ v. over_variables (lower_bound key) v (λ o. IfSome o (λ n. n ≤ℤ value_at point v)) (lower_bound-below key v point holds) tt;
-  below = λ v. over_variables (upper_bound key) v (λ o. IfSome o (λ n. value_at point v ≤ℤ n)) (upper_bound-above key v point holds) tt
+  below = λ v. over_variables (upper_bound key) v (λ o. IfSome o (λ n. value_at point v ≤ℤ n)) (upper_bound-above key v point holds) tt;
 }
 
 -- a point that satisfies a key lies in its root box
@@ -141,13 +141,13 @@ set-keeps (x ∷ xs) (suc i) y (suc j) d Q f h = set-keeps xs i y j d Q (λ e. f
 with_upper-within : (b : PlainBounds) (v : ℕ) (n : ℤ) (point : List ℤ) → IsWithin b point → value_at point v ≤ℤ n → IsWithin (with_upper b v n) point
 with_upper-within b v n point h le = record {
   above = h.above;
-  below = λ w. set-keeps b.upper v (tighter_upper (upper_of b v) (Some n)) w None (λ o. IfSome o (λ m. value_at point w ≤ℤ m)) (λ same. subst (λ u. IfSome (tighter_upper (upper_of b v) (Some n)) (λ m. value_at point u ≤ℤ m)) (sym same) (tighter_upper-above (upper_of b v) (Some n) (value_at point v) (h.below v) le)) (h.below w)
+  below = λ w. set-keeps b.upper v (tighter_upper (upper_of b v) (Some n)) w None (λ o. IfSome o (λ m. value_at point w ≤ℤ m)) (λ same. subst (λ u. IfSome (tighter_upper (upper_of b v) (Some n)) (λ m. value_at point u ≤ℤ m)) (sym same) (tighter_upper-above (upper_of b v) (Some n) (value_at point v) (h.below v) le)) (h.below w);
 }
 
 with_lower-within : (b : PlainBounds) (v : ℕ) (n : ℤ) (point : List ℤ) → IsWithin b point → n ≤ℤ value_at point v → IsWithin (with_lower b v n) point
 with_lower-within b v n point h le = record {
   above = λ w. set-keeps b.lower v (tighter_lower (lower_of b v) (Some n)) w None (λ o. IfSome o (λ m. m ≤ℤ value_at point w)) (λ same. subst (λ u. IfSome (tighter_lower (lower_of b v) (Some n)) (λ m. m ≤ℤ value_at point u)) (sym same) (tighter_lower-below (lower_of b v) (Some n) (value_at point v) (h.above v) le)) (h.above w);
-  below = h.below
+  below = h.below;
 }
 
 -- a point in a box is in the left or in the right half
@@ -171,7 +171,7 @@ beside-covers a point ne holds =
 one_side : (key : List PlainKeyAtom) (box : PlainBox) (i : ℕ) (a : PlainKeyAtom) (upper : Bool) (point : List ℤ) → slice_get key i ≡ Some a → IsInBox key box point → KeyAtomHolds (beside a upper) point → IsInBox key (on_side box i upper) point
 one_side key box i a upper point is h kept = record {
   within = h.within;
-  on_sides = All-push (λ side. IfSome (side_atom key side) (λ b. KeyAtomHolds b point)) box.sides (record { atom = i; upper = upper }) h.on_sides (subst (λ o. IfSome (option_map (λ b. beside b upper) o) (λ b. KeyAtomHolds b point)) (sym is) kept)
+  on_sides = All-push (λ side. IfSome (side_atom key side) (λ b. KeyAtomHolds b point)) box.sides (record { atom = i; upper = upper }) h.on_sides (subst (λ o. IfSome (option_map (λ b. beside b upper) o) (λ b. KeyAtomHolds b point)) (sym is) kept);
 }
 
 -- a point in a box that satisfies the key is on one side of each of its atoms `form != c`

@@ -81,7 +81,7 @@ IsSum-more old new m is adds few len canonical small constant = record {
   len = len;
   few = omega (arith, adds.count);
   coefs = λ v lt. omega (arith, ints, adds.coefs v lt, is.coefs v lt, multiple_size m.form m.weight v canonical small, adds.count);
-  constant = omega (arith, ints, adds.constant, is.constant, constant, adds.count)
+  constant = omega (arith, ints, adds.constant, is.constant, constant, adds.count);
 }
 
 -- ---- the least value of a sum
@@ -123,7 +123,7 @@ pub AddsMultiple-from_parts : (old new : PlainSum) (form : List FormTerm) (const
 AddsMultiple-from_parts old new form constant weight c w more same_weight same_constant coefs added product count = record {
   coefs = λ v lt. coefs v lt ∙ ap (λ (x : ℤ). coef_at old v +ℤ (x *ℤ coefficient_of form v)) same_weight;
   constant = added ∙ ap (λ (x : ℤ). old.constant +ℤ x) (product ∙ ap (λ (x : ℤ). x *ℤ c) same_weight ∙ ap (λ (x : ℤ). weight *ℤ x) same_constant);
-  count = count
+  count = count;
 }
 
 pub constant_size : (w n : ℤ) → unsigned_abs w ≤ 2 ^ 31 → unsigned_abs n ≤ 2 ^ 50 → unsigned_abs (w *ℤ n) ≤ 2 ^ 82

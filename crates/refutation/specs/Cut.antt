@@ -74,19 +74,19 @@ lower_by_ge b a v = option_and_then (lower_at_least (coefficient_of a.form v)) (
 -- the upper and the lower bound that an atom gives by its op; `form = c` gives those of both comparisons
 unfoldable pub upper_cut : PlainBounds → PlainKeyAtom → ℕ → Option ℤ
 upper_cut b a v = elim a.op [
-    | Le ↦ upper_by_le b a v
-    | Ge ↦ upper_by_ge b a v
-    | Eq ↦ first_some (upper_by_le b a v) (upper_by_ge b a v)
-    | Ne ↦ None
-  ]
+  | Le ↦ upper_by_le b a v
+  | Ge ↦ upper_by_ge b a v
+  | Eq ↦ first_some (upper_by_le b a v) (upper_by_ge b a v)
+  | Ne ↦ None
+]
 
 unfoldable pub lower_cut : PlainBounds → PlainKeyAtom → ℕ → Option ℤ
 lower_cut b a v = elim a.op [
-    | Le ↦ lower_by_le b a v
-    | Ge ↦ lower_by_ge b a v
-    | Eq ↦ first_some (lower_by_le b a v) (lower_by_ge b a v)
-    | Ne ↦ None
-  ]
+  | Le ↦ lower_by_le b a v
+  | Ge ↦ lower_by_ge b a v
+  | Eq ↦ first_some (lower_by_le b a v) (lower_by_ge b a v)
+  | Ne ↦ None
+]
 
 -- a lower bound counts above the lower side and not above the upper side; an upper bound below the upper side and not below the lower side
 abbrev pub counts_as_lower : Option ℤ → Option ℤ → ℤ → Bool

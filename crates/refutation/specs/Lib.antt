@@ -3,6 +3,7 @@ pub mod Box
 pub mod Leaf
 pub mod Sum
 pub mod Reading
+pub mod Tree
 pub mod Walk
 pub mod Cut
 pub mod SearchOrder

@@ -5,7 +5,6 @@ ghost use Rattle.lin_model.specs.KeyAtom.{AscendsBelow64};
 ghost use Rattle.lin_model.specs.Key.{IsKey};
 ghost use Rattle.refutation.specs.Bounds.{AreBounds, IsSide, lower_of, upper_of, lower_from, upper_from, is_variable, tighter_lower, tighter_upper, with_lower, with_upper, lower_side, upper_side, lower_by, upper_by, key_bounds, is_empty, crosses, least, greatest};
 
-
 use crate::value::least_within;
 use lin_model::{Form, Key, KeyAtom, Op};
 use std::marker::Model;

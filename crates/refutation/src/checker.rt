@@ -18,7 +18,12 @@ use std::alloc::Global;
 /// Checks that a tree refutes a key: its nodes, in preorder, are read over the list of undecided boxes, at first the key's bounds alone, and a combination takes the next of the terms. Whoever made the tree is not trusted.
 ///
 /// Ok comes only where every node is lawful, every leaf closes its box, and nodes and terms end exactly as no box is undecided; then no integer point satisfies the key. `NodeFails`, `TreeEnds` and `TreeGoesOn` come exactly as their texts say, unless memory runs out first.
-pub fn refutes(alloc: Global, key: &Key, nodes: &[Node], terms: &[LeafTerm]) -> Result<(), TreeFault>
+pub fn refutes(
+    alloc: Global,
+    key: &Key,
+    nodes: &[Node],
+    terms: &[LeafTerm],
+) -> Result<(), TreeFault>
     ensures refuted { OnOk result (Refutes key.now nodes.now terms.now) }
     ensures no_point { OnOk result (HasNoPoint key.now) }
     ensures node_fails { (i : ℕ) → result ≡ Err (TreeFault.NodeFails i)
@@ -47,7 +52,12 @@ pub fn refutes(alloc: Global, key: &Key, nodes: &[Node], terms: &[LeafTerm]) -> 
 }
 
 /// Treats the first undecided box by a node: answers how many terms it took, or None where it isn't lawful or is a leaf that doesn't close the box.
-fn treat(walk: &mut Walk, key: &Key, node: Node, terms: &[LeafTerm]) -> Result<Option<usize>, NoMemory>
+fn treat(
+    walk: &mut Walk,
+    key: &Key,
+    node: Node,
+    terms: &[LeafTerm],
+) -> Result<Option<usize>, NoMemory>
     requires { 0 < length walk.old }
     ensures { IfOk result (λ taken. (box : PlainBox) (rest : List PlainBox) → walk.old ≡ box ∷ rest
         → Treats (treated key.now box node terms.now) terms.now taken rest walk.new) }
@@ -110,7 +120,12 @@ fn names_ne(key: &Key, atom: u16) -> bool
 }
 
 /// Closes the first box by the first `count` terms.
-fn close_by_combo(walk: &mut Walk, key: &Key, count: usize, terms: &[LeafTerm]) -> Result<Option<usize>, NoMemory>
+fn close_by_combo(
+    walk: &mut Walk,
+    key: &Key,
+    count: usize,
+    terms: &[LeafTerm],
+) -> Result<Option<usize>, NoMemory>
     requires { 0 < length walk.old }
     ensures { IfOk result (λ taken. (box : PlainBox) (rest : List PlainBox) → walk.old ≡ box ∷ rest
         → Puts (nat_le count (length terms.now) && combo_closes key.now box (take count terms.now)) [] count taken rest walk.new) }

@@ -47,7 +47,11 @@ pub fn fixed_closes(key: &Key, bounds: &Bounds, atom: u16) -> bool
 {
     match atom_at(key, atom) {
         None => false,
-        Some(atom) => fails_fixed(atom, bounds.least(atom.form()), bounds.greatest(atom.form())),
+        Some(atom) => fails_fixed(
+            atom,
+            bounds.least(atom.form()),
+            bounds.greatest(atom.form()),
+        ),
     }
 }
 

@@ -9,6 +9,9 @@ mod leaf;
 mod node;
 mod side;
 mod sum;
+#[cfg(test)]
+mod tests;
+mod tree;
 mod turn;
 mod value;
 mod walk;
@@ -20,3 +23,4 @@ pub use fault::TreeFault;
 pub use leaf::{Leaf, LeafTerm, On};
 pub use node::Node;
 pub use side::Side;
+pub use tree::Tree;

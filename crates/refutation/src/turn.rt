@@ -17,9 +17,14 @@ pub enum Turn {
         upper: Option<i64>,
     },
     /// The half with the variable above the cut; `lower` is the lower side from before.
-    SplitRight { var: u8, lower: Option<i64> },
+    SplitRight {
+        var: u8,
+        lower: Option<i64>,
+    },
     /// The lower side of an atom `form != c`. The upper side waits.
-    NeLeft { atom: u16 },
+    NeLeft {
+        atom: u16,
+    },
     /// The upper side of an atom `form != c`.
     NeRight,
 }
@@ -40,7 +45,11 @@ pub fn undo(bounds: &mut Bounds, sides: &mut Vec<Side>, turn: Turn)
 }
 
 /// Goes from a box that was split to its other half, where that waits: answers the turn that leads there.
-pub fn move_on(bounds: &mut Bounds, sides: &mut Vec<Side>, turn: Turn) -> Result<Option<Turn>, NoMemory>
+pub fn move_on(
+    bounds: &mut Bounds,
+    sides: &mut Vec<Side>,
+    turn: Turn,
+) -> Result<Option<Turn>, NoMemory>
     requires { IsTurn turn }
     ensures turn { IfOk result (λ next. IfSome next IsTurn) }
     ensures half { IfOk result (λ next. MovesOn turn next (record { bounds = bounds.old; sides = sides.old.items })

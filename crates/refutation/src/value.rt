@@ -7,7 +7,11 @@ ghost use Rattle.refutation.specs.Bounds.{IsSide, least, scaled_side};
 use lin_model::FormTerm;
 
 /// The least value of the terms within the sides, or the greatest one where the upper sides come first.
-pub fn least_within(terms: &[FormTerm], lo: &[Option<i64>; 64], hi: &[Option<i64>; 64]) -> Option<i128>
+pub fn least_within(
+    terms: &[FormTerm],
+    lo: &[Option<i64>; 64],
+    hi: &[Option<i64>; 64],
+) -> Option<i128>
     requires few { length terms.now ≤ 64 }
     requires narrow { All (λ t. t.var < 64) terms.now }
     requires lower { All IsSide lo.now }

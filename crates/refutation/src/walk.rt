@@ -119,7 +119,11 @@ impl Walk {
 }
 
 /// Goes to the first box that waits, and answers whether there is one.
-fn next_box(bounds: &mut Bounds, sides: &mut Vec<Side>, path: &mut Vec<Turn>) -> Result<bool, NoMemory>
+fn next_box(
+    bounds: &mut Bounds,
+    sides: &mut Vec<Side>,
+    path: &mut Vec<Turn>,
+) -> Result<bool, NoMemory>
     requires { All IsTurn path.old.items }
     ensures turns { All IsTurn path.new.items }
     ensures next { IfOk result (λ found. undecided found path.new.items (record { bounds = bounds.new; sides = sides.new.items })

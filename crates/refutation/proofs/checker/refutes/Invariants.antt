@@ -6,5 +6,5 @@ use Rattle.refutation.proofs.checker.refutes.Given as goal
 abbrev pub invariant-loop-i : goal.invariant-loop-i
 invariant-loop-i l = record {
   ending : reading l.key l.i (drop l.i l.nodes) (drop l.taken l.terms) l.walk ≡ tree_reading l.key l.nodes l.terms;
-  within : l.taken ≤ length l.terms
+  within : l.taken ≤ length l.terms;
 }

@@ -25,7 +25,7 @@ loop-term-preserved c =
     let added : to_z w128 (of_z w128 c.sum_of.result) ≡ get_or c.loop-term.coefs c.from-var.result (pos 0) +ℤ c.weighted.result = omega (arith, ints, c.sum_of.ensures, room, more) in
     record {
       value = λ v lt. scaled_step c.loop-term.coefs c.args.form.now weight i no_term c.from-var.result c.weighted.result _ v _ c.loop-term-test.true c.from-var.ensures (c.weighted.ensures.value ∙ ap (λ (n : ℤ). weight *ℤ n) exact) added (omega (arith, within, c.loop-term.auto.coefs, c.requires.len)) (c.loop-term.invariant.value v lt);
-      room = λ v lt. set-keeps c.loop-term.coefs c.from-var.result (to_z w128 (of_z w128 c.sum_of.result)) v (pos 0) (λ n. unsigned_abs n ≤ 2 ^ 81 + 2 ^ 71 * (i + 1)) (λ _. omega (arith, ints, added, room, more)) (omega (arith, c.loop-term.invariant.room v lt))
+      room = λ v lt. set-keeps c.loop-term.coefs c.from-var.result (to_z w128 (of_z w128 c.sum_of.result)) v (pos 0) (λ n. unsigned_abs n ≤ 2 ^ 81 + 2 ^ 71 * (i + 1)) (λ _. omega (arith, ints, added, room, more)) (omega (arith, c.loop-term.invariant.room v lt));
     }
 
 pub returns : goal.returns

@@ -9,7 +9,7 @@ use Rattle.refutation.proofs.walk.next_box.Goals as goal
 pub loop-turn-preserved : goal.loop-turn-preserved
 loop-turn-preserved c = record {
   turns = (All-pop IsTurn c.loop-turn.path.items c.pop.new.self.items (Some c.in-Some.turn) (c.in-Some.ensures {u = tt}).items c.loop-turn.invariant.turns).0;
-  boxes = waiting-back c.pop.new.self.items c.loop-turn.path.items c.in-Some.turn (record { bounds = c.loop-turn.bounds; sides = c.loop-turn.sides.items }) (record { bounds = c.undo.new.bounds; sides = c.undo.new.sides.items }) (record { bounds = c.move_on.new.bounds; sides = c.move_on.new.sides.items }) _ (c.in-Some.ensures {u = tt}).items c.undo.ensures (subst (λ (n : Option Turn). MovesOn c.in-Some.turn n (record { bounds = c.undo.new.bounds; sides = c.undo.new.sides.items }) (record { bounds = c.move_on.new.bounds; sides = c.move_on.new.sides.items })) c.in_default-2.is (c.in_ok-next.ensures {u = tt}).half) c.loop-turn.invariant.boxes
+  boxes = waiting-back c.pop.new.self.items c.loop-turn.path.items c.in-Some.turn (record { bounds = c.loop-turn.bounds; sides = c.loop-turn.sides.items }) (record { bounds = c.undo.new.bounds; sides = c.undo.new.sides.items }) (record { bounds = c.move_on.new.bounds; sides = c.move_on.new.sides.items }) _ (c.in-Some.ensures {u = tt}).items c.undo.ensures (subst (λ (n : Option Turn). MovesOn c.in-Some.turn n (record { bounds = c.undo.new.bounds; sides = c.undo.new.sides.items }) (record { bounds = c.move_on.new.bounds; sides = c.move_on.new.sides.items })) c.in_default-2.is (c.in_ok-next.ensures {u = tt}).half) c.loop-turn.invariant.boxes;
 }
 
 pub returns-in-Some-2-clause-next : goal.returns-in-Some-2-clause-next

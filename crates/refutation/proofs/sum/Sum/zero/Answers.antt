@@ -9,7 +9,7 @@ invariant_of-result c = record {
   len = ap length c.zeros.ensures ∙ length-replicate {A = ℤ} 64 (pos 0);
   few = omega arith;
   coefs = λ v lt. omega (arith, ints, zero_at c.zeros.result v c.zeros.ensures);
-  constant = omega (arith, ints)
+  constant = omega (arith, ints);
 }
 
 pub returns-clause-coefs : goal.returns-clause-coefs
