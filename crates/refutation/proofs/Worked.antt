@@ -45,10 +45,18 @@ check_factor_changed : FailsAt crossed (Combo 2 ∷ []) (on_atom 0 (pos 1) ∷ o
 unfolding reading treated combo_closes summed_form is_positive_sum least variables key_bounds
 check_factor_changed = refl
 
--- a negative factor on `<=`
-check_negative_factor : FailsAt crossed (Combo 2 ∷ []) (on_atom 0 (negsuc 0) ∷ on_atom 1 (negsuc 0) ∷ []) 0
+-- a negative factor on `<=`, on `>=` and on a side, where it would close a box that has points
+check_negative_factor : FailsAt (atom (variable 0) Le (pos 3) ∷ atom (variable 0) Le (pos 5) ∷ []) (Combo 1 ∷ []) (on_atom 1 (negsuc 0) ∷ []) 0
 unfolding reading treated combo_closes summed_form is_positive_sum least variables key_bounds
 check_negative_factor = refl
+
+check_negative_at_least : FailsAt (atom (variable 0) Ge (pos 3) ∷ atom (variable 0) Ge (pos 5) ∷ []) (Combo 1 ∷ []) (on_atom 0 (negsuc 0) ∷ []) 0
+unfolding reading treated combo_closes summed_form is_positive_sum least variables key_bounds
+check_negative_at_least = refl
+
+check_negative_side : FailsAt (atom (variable 0) Le (pos 3) ∷ atom (variable 0) Ge (pos 0) ∷ atom (variable 0) Ne (pos 5) ∷ []) (NeSplit 2 ∷ Combo 1 ∷ []) (on_side 0 (negsuc 0) ∷ []) 1
+unfolding reading treated combo_closes summed_form is_positive_sum least variables key_bounds
+check_negative_side = refl
 
 -- a term is left over, a node is left over, the nodes end early
 check_term_left : GoesOn crossed (Combo 2 ∷ []) (on_atom 0 (pos 1) ∷ on_atom 1 (pos 1) ∷ on_atom 1 (pos 1) ∷ [])
