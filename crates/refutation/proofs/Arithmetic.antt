@@ -1,0 +1,37 @@
+-- Laws of sums and products of integers.
+use Rattle.std.proofs.Common.{◌≡◌, ℕ, suc, ◌+◌, ◌*◌, ◌^◌, ◌≤◌, ℤ, pos, negsuc, ◌+ℤ◌, ◌*ℤ◌, ◌≤ℤ◌, unsigned_abs, to_z, of_z, arith, ap, ◌∙◌}
+use Rattle.std.specs.Int.{w128}
+use Rattle.std.proofs.Math.Nat.{mul-le-mul_left, mul-le-mul}
+use Rattle.std.proofs.lemmas.Int.{ints, to_z-of_z, unsigned_abs-mul, fits_signed_from_abs}
+use borrow.Author.Differences.{up, down, sum_is_lem, product_is, le_out}
+
+pub distrib_right : (a b c : ℤ) → (a +ℤ b) *ℤ c ≡ (a *ℤ c) +ℤ (b *ℤ c)
+distrib_right a b c =
+    omega (arith, ints, ap (λ (x : ℕ). x * up c) (sum_is_lem a b), ap (λ (x : ℕ). x * down c) (sum_is_lem a b))
+
+pub distrib_left : (a b c : ℤ) → a *ℤ (b +ℤ c) ≡ (a *ℤ b) +ℤ (a *ℤ c)
+distrib_left a b c =
+    omega (arith, ints, ap (λ (x : ℕ). up a * x) (sum_is_lem b c), ap (λ (x : ℕ). down a * x) (sum_is_lem b c))
+
+pub times_assoc : (a b c : ℤ) → (a *ℤ b) *ℤ c ≡ a *ℤ (b *ℤ c)
+times_assoc a b c =
+    omega (arith, ints, ap (λ (x : ℕ). x * up c) (product_is a b).0, ap (λ (x : ℕ). x * down c) (product_is a b).0, ap (λ (x : ℕ). x * up c) (product_is a b).1, ap (λ (x : ℕ). x * down c) (product_is a b).1, ap (λ (x : ℕ). up a * x) (product_is b c).0, ap (λ (x : ℕ). down a * x) (product_is b c).0, ap (λ (x : ℕ). up a * x) (product_is b c).1, ap (λ (x : ℕ). down a * x) (product_is b c).1)
+
+-- a factor that isn't negative keeps the order, a negative one turns it
+pub scale_up : (n : ℕ) (x y : ℤ) → x ≤ℤ y → (pos n *ℤ x) ≤ℤ (pos n *ℤ y)
+scale_up n x y h = omega (arith, ints, mul-le-mul_left n (le_out x y h))
+
+pub scale_down : (n : ℕ) (x y : ℤ) → x ≤ℤ y → (negsuc n *ℤ y) ≤ℤ (negsuc n *ℤ x)
+scale_down n x y h = omega (arith, ints, mul-le-mul_left (suc n) (le_out x y h))
+
+-- a product of a number of at most 80 bits with a side fits 128 bits, and is at most 2^114 in size
+product_size : (a b : ℤ) → unsigned_abs a ≤ 2 ^ 80 → unsigned_abs b ≤ 2 ^ 32 + 1 → unsigned_abs (a *ℤ b) ≤ 2 ^ 114
+product_size a b h k =
+    omega (arith, unsigned_abs-mul a b, mul-le-mul h k)
+
+pub product_is_exact : (a b p q : ℤ) → p ≡ a → q ≡ b → unsigned_abs a ≤ 2 ^ 80 → unsigned_abs b ≤ 2 ^ 32 + 1 → to_z w128 (of_z w128 (p *ℤ q)) ≡ a *ℤ b
+product_is_exact a b p q pa qb h k =
+    ap (λ (x : ℤ). to_z w128 (of_z w128 (x *ℤ q))) pa ∙ ap (λ (x : ℤ). to_z w128 (of_z w128 (a *ℤ x))) qb ∙ to_z-of_z w128 (a *ℤ b) (fits_signed_from_abs w128 (a *ℤ b) (omega (arith, product_size a b h k)))
+
+pub product_is_small : (a b r : ℤ) → r ≡ a *ℤ b → unsigned_abs a ≤ 2 ^ 80 → unsigned_abs b ≤ 2 ^ 32 + 1 → unsigned_abs r ≤ 2 ^ 114
+product_is_small a b r is h k = omega (arith, ap unsigned_abs is, product_size a b h k)

@@ -1,0 +1,12 @@
+pub mod Worked
+pub mod Arithmetic
+pub mod LookUps
+pub mod Points
+pub mod Sums
+pub mod ClosedBoxes
+pub mod Soundness
+pub mod BoundsLemmas
+pub mod SumLemmas
+pub mod LeafLemmas
+pub mod WalkLemmas
+pub mod ReadingLemmas

@@ -1,0 +1,10 @@
+pub mod Bounds
+pub mod Box
+pub mod Leaf
+pub mod Sum
+pub mod Reading
+pub mod Tree
+pub mod Walk
+pub mod Cut
+pub mod SearchOrder
+pub mod SearchTree

@@ -1,0 +1,258 @@
+//! Bounds: a lower and an upper side for each of 64 variables.
+
+ghost use Rattle.std.specs.Prelude.{◌≡◌, ◌==◌, if◌then◌else◌, false, MatchOption, None, replicate, slice_set, ◌+◌, ◌^◌, ◌<◌, ◌≤◌, ℕ, ℤ, pos, IfSome, unsigned_abs};
+ghost use Rattle.lin_model.specs.KeyAtom.{AscendsBelow64};
+ghost use Rattle.lin_model.specs.Key.{IsKey};
+ghost use Rattle.refutation.specs.Bounds.{AreBounds, IsSide, lower_of, upper_of, lower_from, upper_from, is_variable, tighter_lower, tighter_upper, with_lower, with_upper, lower_side, upper_side, lower_by, upper_by, key_bounds, is_empty, crosses, least, greatest};
+
+use crate::value::least_within;
+use lin_model::{Form, Key, KeyAtom, Op};
+use std::marker::Model;
+
+/// The greatest size of a side that an atom gives.
+const LIMIT: i64 = 1 << 32;
+
+/// A lower and an upper side for each of 64 variables, None where that side is missing. Each side is at most 2^32 + 1 in size.
+#[derive(Debug, Drop)]
+pub struct Bounds {
+    lo: [Option<i64>; 64],
+    hi: [Option<i64>; 64],
+}
+
+impl Model for Bounds {
+    ghost use Rattle.refutation.specs.Bounds.{PlainBounds, AreBounds};
+
+    ghost Value = { PlainBounds };
+
+    ghost view = { λ b. record { lower = b.lo; upper = b.hi } };
+
+    ghost invariant = { λ b. AreBounds (record { lower = b.lo; upper = b.hi }) };
+}
+
+impl Bounds {
+    /// The bounds that the one-variable atoms of a key give, the tightest of each kind, and never tighter than their atoms: a constant beyond 2^32 is brought to 2^32, or gives no side where it bounds nothing within.
+    pub fn of(key: &Key) -> Bounds
+        ensures bounds { result ≡ key_bounds key.now }
+        ensures key { IsKey key.now }
+    {
+        let mut bounds = Bounds::unbounded();
+        for atom in key.atoms() {
+            bounds.keep(atom);
+        }
+        let _ = &bounds.lo;
+        bounds
+    }
+
+    /// No side at all.
+    fn unbounded() -> Bounds
+        ensures lower { (v : ℕ) → lower_of result v ≡ None }
+        ensures upper { (v : ℕ) → upper_of result v ≡ None }
+    {
+        Bounds {
+            lo: missing_sides(),
+            hi: missing_sides(),
+        }
+    }
+
+    /// Tightens the sides that this atom gives.
+    fn keep(&mut self, atom: &KeyAtom)
+        ensures lower { (v : ℕ) → v < 64 → lower_of self.new v
+            ≡ tighter_lower (lower_of self.old v) (lower_from atom.now v) }
+        ensures upper { (v : ℕ) → v < 64 → upper_of self.new v
+            ≡ tighter_upper (upper_of self.old v) (upper_from atom.now v) }
+    {
+        if let Some(var) = variable_alone(atom.form()) {
+            self.keep_lower(var, lower_by(atom.op(), atom.constant()));
+            self.keep_upper(var, upper_by(atom.op(), atom.constant()));
+        }
+    }
+
+    /// Raises the lower side of a variable to this side, if there is one.
+    fn keep_lower(&mut self, var: u8, side: Option<i64>)
+        requires var { var < 64 }
+        requires side { IsSide side }
+        ensures lower { (v : ℕ) → v < 64 → lower_of self.new v
+            ≡ tighter_lower (lower_of self.old v) (if var == v then side else None) }
+        ensures upper { self.new.upper ≡ self.old.upper }
+    {
+        if let Some(to) = side {
+            self.raise_lower(var, to);
+        }
+    }
+
+    /// Lowers the upper side of a variable to this side, if there is one.
+    fn keep_upper(&mut self, var: u8, side: Option<i64>)
+        requires var { var < 64 }
+        requires side { IsSide side }
+        ensures upper { (v : ℕ) → v < 64 → upper_of self.new v
+            ≡ tighter_upper (upper_of self.old v) (if var == v then side else None) }
+        ensures lower { self.new.lower ≡ self.old.lower }
+    {
+        if let Some(to) = side {
+            self.lower_upper(var, to);
+        }
+    }
+
+    /// Whether some lower side is above its upper side.
+    pub fn is_empty(&self) -> bool
+        ensures { result ≡ is_empty self.now }
+    {
+        any_crosses(&self.lo, &self.hi)
+    }
+
+    /// The least value of a form, None exactly where a side that is needed is missing.
+    pub fn least(&self, form: &Form) -> Option<i128>
+        requires { AscendsBelow64 form.now }
+        ensures { result ≡ least form.now self.now }
+    {
+        least_within(form.terms(), &self.lo, &self.hi)
+    }
+
+    /// The greatest value of a form, None exactly where a side that is needed is missing.
+    pub fn greatest(&self, form: &Form) -> Option<i128>
+        requires { AscendsBelow64 form.now }
+        ensures { result ≡ greatest form.now self.now }
+    {
+        least_within(form.terms(), &self.hi, &self.lo)
+    }
+
+    /// The lower side of a variable.
+    pub fn lower(&self, var: u8) -> Option<i64>
+        requires { var < 64 }
+        ensures value { result ≡ lower_of self.now var }
+        ensures side { IsSide result }
+    {
+        self.lo[usize::from(var)]
+    }
+
+    /// The upper side of a variable.
+    pub fn upper(&self, var: u8) -> Option<i64>
+        requires { var < 64 }
+        ensures value { result ≡ upper_of self.now var }
+        ensures side { IsSide result }
+    {
+        self.hi[usize::from(var)]
+    }
+
+    /// Puts this side in the place of a variable's lower side.
+    pub fn set_lower(&mut self, var: u8, side: Option<i64>)
+        requires var { var < 64 }
+        requires side { IsSide side }
+        ensures { self.new ≡ record self.old { lower = slice_set self.old.lower var side } }
+    {
+        self.lo[usize::from(var)] = side;
+    }
+
+    /// Puts this side in the place of a variable's upper side.
+    pub fn set_upper(&mut self, var: u8, side: Option<i64>)
+        requires var { var < 64 }
+        requires side { IsSide side }
+        ensures { self.new ≡ record self.old { upper = slice_set self.old.upper var side } }
+    {
+        self.hi[usize::from(var)] = side;
+    }
+
+    /// Raises the lower side of a variable to `to`, unless it is tighter already.
+    pub fn raise_lower(&mut self, var: u8, to: i64)
+        requires var { var < 64 }
+        requires to { unsigned_abs to ≤ 2 ^ 32 + 1 }
+        ensures after { self.new ≡ with_lower self.old var to }
+        ensures limits { AreBounds self.new }
+    {
+        let side = self.lo[usize::from(var)];
+        self.lo[usize::from(var)] = Some(tighter_lower(side, to));
+    }
+
+    /// Lowers the upper side of a variable to `to`, unless it is tighter already.
+    pub fn lower_upper(&mut self, var: u8, to: i64)
+        requires var { var < 64 }
+        requires to { unsigned_abs to ≤ 2 ^ 32 + 1 }
+        ensures after { self.new ≡ with_upper self.old var to }
+        ensures limits { AreBounds self.new }
+    {
+        let side = self.hi[usize::from(var)];
+        self.hi[usize::from(var)] = Some(tighter_upper(side, to));
+    }
+}
+
+/// 64 missing sides.
+fn missing_sides() -> [Option<i64>; 64]
+    ensures { result ≡ replicate 64 None }
+{
+    [None; 64]
+}
+
+/// The variable that the form is, where it is one variable alone.
+fn variable_alone(form: &Form) -> Option<u8>
+    requires { AscendsBelow64 form.now }
+    ensures { MatchOption result ((v : ℕ) → is_variable form.now v ≡ false)
+        (λ w. (w < 64) × ((v : ℕ) → is_variable form.now v ≡ (w == v))) }
+{
+    match form.terms() {
+        [term] if term.coef == 1 => Some(term.var),
+        _ => None,
+    }
+}
+
+/// The lower side that a comparison of one variable with `constant` gives.
+fn lower_by(op: Op, constant: i64) -> Option<i64>
+    ensures value { result ≡ lower_by op constant }
+    ensures size { IfSome result (λ n. unsigned_abs n ≤ 2 ^ 32) }
+{
+    match op {
+        Op::Ge | Op::Eq if constant >= -LIMIT => Some(constant.min(LIMIT)),
+        _ => None,
+    }
+}
+
+/// The upper side that a comparison of one variable with `constant` gives.
+fn upper_by(op: Op, constant: i64) -> Option<i64>
+    ensures value { result ≡ upper_by op constant }
+    ensures size { IfSome result (λ n. unsigned_abs n ≤ 2 ^ 32) }
+{
+    match op {
+        Op::Le | Op::Eq if constant <= LIMIT => Some(constant.max(-LIMIT)),
+        _ => None,
+    }
+}
+
+/// Whether the lower side of some variable is above its upper side.
+fn any_crosses(lo: &[Option<i64>; 64], hi: &[Option<i64>; 64]) -> bool
+    ensures { result ≡ is_empty (record { lower = lo.now; upper = hi.now }) }
+{
+    for var in 0..64 {
+        if crosses(lo[var], hi[var]) {
+            return true;
+        }
+    }
+    false
+}
+
+fn crosses(lower: Option<i64>, upper: Option<i64>) -> bool
+    ensures { result ≡ crosses lower upper }
+{
+    match (lower, upper) {
+        (Some(lower), Some(upper)) => lower > upper,
+        _ => false,
+    }
+}
+
+/// The greater of a lower side and another number.
+fn tighter_lower(side: Option<i64>, to: i64) -> i64
+    ensures { Some result ≡ tighter_lower side (Some to) }
+{
+    match side {
+        None => to,
+        Some(side) => side.max(to),
+    }
+}
+
+/// The lesser of an upper side and another number.
+fn tighter_upper(side: Option<i64>, to: i64) -> i64
+    ensures { Some result ≡ tighter_upper side (Some to) }
+{
+    match side {
+        None => to,
+        Some(side) => side.min(to),
+    }
+}

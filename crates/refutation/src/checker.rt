@@ -1,0 +1,151 @@
+//! The check that a tree refutes a key.
+
+ghost use Rattle.std.specs.Prelude.{◌≡◌, ◌<◌, ◌∷◌, ◌&&◌, [], ℕ, List, Err, OnOk, length, take, nat_le, true, false, IfOk};
+ghost use Rattle.refutation.specs.Box.{PlainBox, left_half, right_half, on_side};
+ghost use Rattle.refutation.specs.Leaf.{combo_closes};
+ghost use Rattle.refutation.specs.Reading.{is_split, names_ne, treated, Refutes, FailsAt, EndsEarly, GoesOn, HasNoPoint};
+ghost use Rattle.refutation.specs.Walk.{Puts, Treats};
+
+use crate::closing::atom_at;
+use crate::fault::TreeFault;
+use crate::leaf::LeafTerm;
+use crate::node::Node;
+use crate::walk::Walk;
+use lin_model::{Key, Op};
+use outside::NoMemory;
+use std::alloc::Global;
+
+/// Checks that a tree refutes a key: its nodes, in preorder, are read over the list of undecided boxes, at first the key's bounds alone, and a combination takes the next of the terms. Whoever made the tree is not trusted.
+///
+/// Ok comes only where every node is lawful, every leaf closes its box, and nodes and terms end exactly as no box is undecided; then no integer point satisfies the key. `NodeFails`, `TreeEnds` and `TreeGoesOn` come exactly as their texts say, unless memory runs out first.
+pub fn refutes(
+    alloc: Global,
+    key: &Key,
+    nodes: &[Node],
+    terms: &[LeafTerm],
+) -> Result<(), TreeFault>
+    ensures refuted { OnOk result (Refutes key.now nodes.now terms.now) }
+    ensures no_point { OnOk result (HasNoPoint key.now) }
+    ensures node_fails { (i : ℕ) → result ≡ Err (TreeFault.NodeFails i)
+        → FailsAt key.now nodes.now terms.now i }
+    ensures tree_ends { result ≡ Err TreeFault.TreeEnds → EndsEarly key.now nodes.now terms.now }
+    ensures tree_goes_on { result ≡ Err TreeFault.TreeGoesOn → GoesOn key.now nodes.now terms.now }
+{
+    let mut walk = Walk::new(alloc, key);
+    let mut taken = 0;
+    for (i, node) in nodes.iter().enumerate() {
+        if !walk.is_open() {
+            return Err(TreeFault::TreeGoesOn);
+        }
+        match treat(&mut walk, key, *node, &terms[taken..])? {
+            None => return Err(TreeFault::NodeFails(i as u64)),
+            Some(count) => taken += count,
+        }
+    }
+    if walk.is_open() {
+        return Err(TreeFault::TreeEnds);
+    }
+    if taken < terms.len() {
+        return Err(TreeFault::TreeGoesOn);
+    }
+    Ok(())
+}
+
+/// Treats the first undecided box by a node: answers how many terms it took, or None where it isn't lawful or is a leaf that doesn't close the box.
+fn treat(
+    walk: &mut Walk,
+    key: &Key,
+    node: Node,
+    terms: &[LeafTerm],
+) -> Result<Option<usize>, NoMemory>
+    requires { 0 < length walk.old }
+    ensures { IfOk result (λ taken. (box : PlainBox) (rest : List PlainBox) → walk.old ≡ box ∷ rest
+        → Treats (treated key.now box node terms.now) terms.now taken rest walk.new) }
+{
+    match node {
+        Node::Split { var, cut } => split(walk, var, cut),
+        Node::NeSplit { atom } => split_ne(walk, key, atom),
+        Node::Combo { count } => close_by_combo(walk, key, usize::from(count), terms),
+        Node::Fixed { atom } => {
+            let closed = walk.fixed_closes(key, atom);
+            close_if(walk, closed, 0)
+        }
+        Node::Empty => {
+            let closed = walk.is_empty();
+            close_if(walk, closed, 0)
+        }
+        Node::Left => Ok(None),
+    }
+}
+
+/// Splits the first box by a cut that a split may have.
+fn split(walk: &mut Walk, var: u8, cut: i64) -> Result<Option<usize>, NoMemory>
+    ensures { IfOk result (λ taken. (box : PlainBox) (rest : List PlainBox) → walk.old ≡ box ∷ rest
+        → Puts (is_split var cut) (left_half box var cut ∷ right_half box var cut ∷ []) 0 taken rest walk.new) }
+{
+    if !is_split(var, cut) {
+        return Ok(None);
+    }
+    walk.split(var, cut)?;
+    Ok(Some(0))
+}
+
+/// Whether this variable and this cut are within the limits of a split.
+fn is_split(var: u8, cut: i64) -> bool
+    ensures { result ≡ is_split var cut }
+{
+    var < 64 && cut.unsigned_abs() <= 1 << 32
+}
+
+/// Splits the first box by an atom `form != c` of the key.
+fn split_ne(walk: &mut Walk, key: &Key, atom: u16) -> Result<Option<usize>, NoMemory>
+    ensures { IfOk result (λ taken. (box : PlainBox) (rest : List PlainBox) → walk.old ≡ box ∷ rest
+        → Puts (names_ne key.now atom) (on_side box atom false ∷ on_side box atom true ∷ []) 0 taken rest walk.new) }
+{
+    if !names_ne(key, atom) {
+        return Ok(None);
+    }
+    walk.split_ne(atom)?;
+    Ok(Some(0))
+}
+
+/// Whether this is the number of an atom `form != c` of the key.
+fn names_ne(key: &Key, atom: u16) -> bool
+    ensures { result ≡ names_ne key.now atom }
+{
+    match atom_at(key, atom) {
+        None => false,
+        Some(atom) => matches!(atom.op(), Op::Ne),
+    }
+}
+
+/// Closes the first box by the first `count` terms.
+fn close_by_combo(
+    walk: &mut Walk,
+    key: &Key,
+    count: usize,
+    terms: &[LeafTerm],
+) -> Result<Option<usize>, NoMemory>
+    requires { 0 < length walk.old }
+    ensures { IfOk result (λ taken. (box : PlainBox) (rest : List PlainBox) → walk.old ≡ box ∷ rest
+        → Puts (nat_le count (length terms.now) && combo_closes key.now box (take count terms.now)) [] count taken rest walk.new) }
+{
+    if count > terms.len() {
+        return Ok(None);
+    }
+    let closed = walk.combo_closes(key, &terms[..count]);
+    close_if(walk, closed, count)
+}
+
+/// Takes the first box off where it is closed, by a leaf that takes `count` terms.
+fn close_if(walk: &mut Walk, closed: bool, count: usize) -> Result<Option<usize>, NoMemory>
+    requires { 0 < length walk.old }
+    ensures { IfOk result (λ taken. (box : PlainBox) (rest : List PlainBox) → walk.old ≡ box ∷ rest
+        → Puts closed [] count taken rest walk.new) }
+{
+    if !closed {
+        return Ok(None);
+    }
+    walk.close()?;
+    Ok(Some(count))
+}

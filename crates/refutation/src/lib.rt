@@ -1,0 +1,26 @@
+//! What closes a box, what a tree refutes, and that a refuted key has no integer point.
+#![tactic(auto)]
+
+mod bounds;
+mod checker;
+mod closing;
+mod fault;
+mod leaf;
+mod node;
+mod side;
+mod sum;
+#[cfg(test)]
+mod tests;
+mod tree;
+mod turn;
+mod value;
+mod walk;
+
+pub use bounds::Bounds;
+pub use checker::refutes;
+pub use closing::closes;
+pub use fault::TreeFault;
+pub use leaf::{Leaf, LeafTerm, On};
+pub use node::Node;
+pub use side::Side;
+pub use tree::Tree;

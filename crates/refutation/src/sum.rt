@@ -1,0 +1,145 @@
+//! Sums of multiples of `form - constant`, as one coefficient for each variable.
+
+ghost use Rattle.std.specs.Prelude.{◌≡◌, ◌+◌, ◌*◌, ◌^◌, ◌<◌, ◌≤◌, ℕ, pos, ◌+ℤ◌, ◌*ℤ◌, length, unsigned_abs, slice_index_or, replicate, IfSome};
+ghost use Rattle.std.specs.List.{All};
+ghost use Rattle.lin_model.specs.KeyAtom.{IsCanonicalForm};
+ghost use Rattle.refutation.specs.Bounds.{lower_of, upper_of, scaled_side, least};
+ghost use Rattle.refutation.specs.Leaf.{coefficient_of};
+ghost use Rattle.refutation.specs.Sum.{PlainSum, AddsMultiple, is_positive_within, coef_at, dense_form};
+
+use crate::bounds::Bounds;
+use crate::value::scaled_side;
+use lin_model::FormTerm;
+use std::marker::Model;
+
+/// A sum of at most eight multiples: a coefficient for each of 64 variables, less a constant.
+#[derive(Drop)]
+pub struct Sum {
+    coefs: [i128; 64],
+    constant: i128,
+    count: u8,
+}
+
+impl Model for Sum {
+    ghost use Rattle.refutation.specs.Sum.{PlainSum, IsSum};
+
+    ghost Value = { PlainSum };
+
+    ghost view = { λ s. record { coefs = s.coefs; constant = s.constant; count = s.count } };
+
+    ghost invariant = { λ s. IsSum (record { coefs = s.coefs; constant = s.constant; count = s.count }) };
+}
+
+impl Sum {
+    /// The sum of nothing.
+    pub fn zero() -> Sum
+        ensures coefs { (v : ℕ) → v < 64 → coef_at result v ≡ pos 0 }
+        ensures constant { result.constant ≡ pos 0 }
+        ensures count { result.count ≡ 0 }
+    {
+        Sum {
+            coefs: zeros(),
+            constant: 0,
+            count: 0,
+        }
+    }
+
+    /// Adds `weight` times `form - constant`.
+    pub fn add(&mut self, form: &[FormTerm], constant: i64, weight: i64)
+        requires form { IsCanonicalForm form.now }
+        requires constant { unsigned_abs constant ≤ 2 ^ 50 }
+        requires weight { unsigned_abs weight ≤ 2 ^ 31 }
+        requires few { self.old.count < 8 }
+        ensures { AddsMultiple self.old self.new
+            (record { form = form.now; constant = constant; weight = weight }) }
+    {
+        add_scaled(&mut self.coefs, form, weight);
+        self.constant = sum_of(self.constant, weighted(weight, constant));
+        self.count += 1;
+    }
+
+    /// Whether the least value of the sum within the bounds is known and positive.
+    pub fn is_positive(&self, bounds: &Bounds) -> bool
+        ensures { result ≡ is_positive_within self.now bounds.now }
+    {
+        match least_of(&self.coefs, bounds) {
+            None => false,
+            Some(least) => least - self.constant > 0,
+        }
+    }
+}
+
+fn zeros() -> [i128; 64]
+    ensures { result ≡ replicate 64 (pos 0) }
+{
+    [0; 64]
+}
+
+/// Adds `weight` times the form to the coefficients.
+fn add_scaled(coefs: &mut [i128], form: &[FormTerm], weight: i64)
+    requires len { length coefs.old ≡ 64 }
+    requires room { (v : ℕ) → v < 64 → unsigned_abs (slice_index_or coefs.old v (pos 0)) ≤ 2 ^ 81 }
+    requires form { IsCanonicalForm form.now }
+    requires weight { unsigned_abs weight ≤ 2 ^ 31 }
+    ensures { (v : ℕ) → v < 64 → slice_index_or coefs.new v (pos 0)
+        ≡ slice_index_or coefs.old v (pos 0) +ℤ (weight *ℤ coefficient_of form.now v) }
+{
+    for term in form {
+        let var = usize::from(term.var);
+        coefs[var] = sum_of(coefs[var], weighted(weight, term.coef));
+    }
+}
+
+fn sum_of(a: i128, b: i128) -> i128
+    requires a { unsigned_abs a ≤ 2 ^ 90 }
+    requires b { unsigned_abs b ≤ 2 ^ 90 }
+    ensures { result ≡ a +ℤ b }
+{
+    a + b
+}
+
+/// A weight times a coefficient or a constant.
+fn weighted(weight: i64, number: i64) -> i128
+    requires weight { unsigned_abs weight ≤ 2 ^ 31 }
+    requires number { unsigned_abs number ≤ 2 ^ 50 }
+    ensures value { result ≡ weight *ℤ number }
+    ensures size { unsigned_abs result ≤ 2 ^ 31 * unsigned_abs number }
+{
+    wide_product(weight, number)
+}
+
+fn wide_product(a: i64, b: i64) -> i128
+    requires a { unsigned_abs a ≤ 2 ^ 31 }
+    requires b { unsigned_abs b ≤ 2 ^ 50 }
+    ensures { result ≡ a *ℤ b }
+{
+    i128::from(a) * i128::from(b)
+}
+
+/// The least value of these coefficients' sum within the bounds.
+fn least_of(coefs: &[i128; 64], bounds: &Bounds) -> Option<i128>
+    requires { (v : ℕ) → v < 64 → unsigned_abs (slice_index_or coefs.now v (pos 0)) ≤ 2 ^ 80 }
+    ensures value { result ≡ least (dense_form coefs.now) bounds.now }
+    ensures size { IfSome result (λ n. unsigned_abs n ≤ 2 ^ 120) }
+{
+    let mut sum = 0;
+    for var in 0..64u8 {
+        match least_of_variable(coefs, bounds, var) {
+            None => return None,
+            Some(value) => sum += value,
+        }
+    }
+    Some(sum)
+}
+
+/// The least value of the term of one variable within the bounds.
+fn least_of_variable(coefs: &[i128; 64], bounds: &Bounds, var: u8) -> Option<i128>
+    requires var { var < 64 }
+    requires coefs { (v : ℕ) → v < 64 → unsigned_abs (slice_index_or coefs.now v (pos 0)) ≤ 2 ^ 80 }
+    ensures value { result
+        ≡ scaled_side (slice_index_or coefs.now var (pos 0)) (lower_of bounds.now var) (upper_of bounds.now var) }
+    ensures size { IfSome result (λ n. unsigned_abs n ≤ 2 ^ 114) }
+{
+    let coef = coefs[usize::from(var)];
+    scaled_side(coef, bounds.lower(var), bounds.upper(var))
+}
