@@ -12,6 +12,7 @@ mod push;
 mod query;
 mod refusal;
 mod run;
+mod shape;
 mod side;
 mod small;
 mod token;
