@@ -15,5 +15,6 @@ pub mod Sides
 pub mod AtomLines
 pub mod VarLines
 pub mod QueryLines
+pub mod QueryReads
 mod SmallLemmas
 mod SpaceLemmas
