@@ -15,6 +15,7 @@ pub mod Sides
 pub mod AtomLines
 pub mod VarLines
 pub mod QueryLines
+pub mod QueryReads
 mod SmallLemmas
 mod SpaceLemmas
 mod ReadBackTokens
