@@ -17,7 +17,6 @@ pub mod VarLines
 pub mod QueryLines
 pub mod QueryReads
 mod SmallLemmas
-mod SpaceLemmas
 mod ReadBackTokens
 mod ReadBackWords
 mod ReadBackSides

@@ -1,12 +1,15 @@
 //! Small sessions: one executor with one query, spelled plainly.
-ghost use Rattle.std.specs.Prelude.{◌≡◌, ◌≢◌, [], ◌∷◌, ◌++◌, ◌<◌, ◌≤◌, ℕ, List, Option, Some, None, All, IfOk, IfSome, IfNone, IsSomeAnd, MatchOption, pos, decimal, codes};
-ghost use Rattle.lin_model.specs.Names.{IsName};
-ghost use Rattle.lin_model.specs.Conditions.{PlainCondition};
+ghost use Rattle.std.specs.Prelude.{◌≡◌, ◌≢◌, ◌++◌, ℕ, List, Some, IfOk, IfSome, IfNone, MatchOption};
+ghost use Rattle.lin_model.specs.Conditions.{PlainCondition, IsCondition};
 ghost use Rattle.lin_text.specs.Spelling.{condition_text};
-ghost use Rattle.lin_text.specs.Small.{IsSmall, SpellsSmall, head_text, end_text, declared_text, bounds_of};
+ghost use Rattle.lin_text.specs.Small.{SpellsSmall, head_text, end_text};
 
+use crate::fault::TextKind;
+use crate::laws::{spelled_has_no_fault, spelled_once, written_is_spelled};
+use crate::query::read_query;
+use crate::shape::is_small;
 use crate::write::write_query;
-use lin_model::{Condition, Name, Var, is_name};
+use lin_model::Condition;
 use outside::NoMemory;
 use std::alloc::Global;
 
@@ -18,9 +21,12 @@ pub fn read_small(alloc: Global, bytes: &[u8]) -> Result<Option<Condition>, NoMe
     let Some(body) = body_of(bytes) else {
         return Ok(None);
     };
-    let Some(query) = guess(alloc, body)? else {
+    let Some(query) = query_of(alloc, body)? else {
         return Ok(None);
     };
+    if !is_small(&query) {
+        return Ok(None);
+    }
     if write_query(alloc, &query)?.as_slice() == body {
         Ok(Some(query))
     } else {
@@ -52,87 +58,22 @@ fn before<'a>(bytes: &'a [u8], end: &[u8]) -> Option<&'a [u8]>
     bytes.strip_suffix(end)
 }
 
-/// The small query that the bytes may spell: the one that they do spell, where they spell one.
-fn guess(alloc: Global, body: &[u8]) -> Result<Option<Condition>, NoMemory>
-    ensures small { IfOk result (λ guess. IfSome guess IsSmall) }
-    ensures found { IfOk result (λ guess. (q : PlainCondition) → IsSmall q → body.now ≡ condition_text q → guess ≡ Some q) }
+/// The query that the bytes spell, where they spell one.
+fn query_of(alloc: Global, body: &[u8]) -> Result<Option<Condition>, NoMemory>
+    ensures condition { IfOk result (λ found. IfSome found IsCondition) }
+    ensures found { IfOk result (λ found. (q : PlainCondition) → IsCondition q → body.now ≡ condition_text q → found ≡ Some q) }
 {
-    let Some((name, lo, hi)) = declared(body) else {
-        return Ok(None);
-    };
-    if !is_name(name) || lo > hi || hi > 63 {
-        return Ok(None);
-    }
-    Ok(Some(with_one_var(alloc, name, lo, hi)?))
-}
-
-fn with_one_var(alloc: Global, name: &[u8], lo: u8, hi: u8) -> Result<Condition, NoMemory>
-    requires name { IsName name.now }
-    requires order { lo ≤ hi }
-    requires narrow { hi ≤ 63 }
-    ensures { IfOk result (λ q. q ≡ record { vars = record { name = name.now; lo = pos lo; hi = pos hi } ∷ []; atoms = [] }) }
-{
-    let name = Name::new(Vec::from_slice(alloc, name)?);
-    let mut vars = Vec::new(alloc);
-    vars.push(Var::new(name, i64::from(lo), i64::from(hi)))?;
-    Ok(Condition::new(vars, Vec::new(alloc)))
-}
-
-/// The name and the bounds of a lone declaration.
-fn declared(body: &[u8]) -> Option<(&[u8], u8, u8)>
-    ensures { (name : List ℕ) (lo hi : ℕ) → All (λ b. b ≢ 32) name → lo < 256 → hi < 256 → body.now ≡ declared_text name lo hi
-        → IsSomeAnd result (λ parts. (parts.0.now ≡ name) × (parts.1 ≡ lo) × (parts.2 ≡ hi)) }
-{
-    let Some(rest) = after(body, b"var ") else {
-        return None;
-    };
-    let Some((name, bounds)) = at_space(rest) else {
-        return None;
-    };
-    let Some((lo, hi)) = numbers(bounds) else {
-        return None;
-    };
-    Some((name, lo, hi))
-}
-
-/// Two numbers with a space between and a line feed behind.
-fn numbers(bytes: &[u8]) -> Option<(u8, u8)>
-    ensures { (lo hi : ℕ) → lo < 256 → hi < 256 → bytes.now ≡ bounds_of lo hi → IsSomeAnd result (λ bounds. (bounds.0 ≡ lo) × (bounds.1 ≡ hi)) }
-{
-    let Some((lo, rest)) = at_space(bytes) else {
-        return None;
-    };
-    let Some(hi) = before(rest, b"\n") else {
-        return None;
-    };
-    let Some(lo) = number(lo) else {
-        return None;
-    };
-    let Some(hi) = number(hi) else {
-        return None;
-    };
-    Some((lo, hi))
-}
-
-/// The number that the digits spell.
-fn number(digits: &[u8]) -> Option<u8>
-    ensures { (n : ℕ) → n < 256 → digits.now ≡ decimal n → result ≡ Some n }
-{
-    match str::from_utf8(digits) {
-        Ok(text) => text.parse::<u8>().ok(),
-        Err(_) => None,
-    }
-}
-
-/// The bytes before the first space, and those behind it.
-fn at_space(bytes: &[u8]) -> Option<(&[u8], &[u8])>
-    ensures { (front back : List ℕ) → All (λ b. b ≢ 32) front → bytes.now ≡ front ++ 32 ∷ back
-        → IsSomeAnd result (λ parts. (parts.0.now ≡ front) × (parts.1.now ≡ back)) }
-{
-    for (i, byte) in bytes.iter().enumerate() {
-        if *byte == b' ' {
-            return Some((&bytes[..i], &bytes[i + 1..]));
+    written_is_spelled();
+    spelled_once();
+    spelled_has_no_fault();
+    match read_query(alloc, body, 0, false) {
+        Ok((query, _)) => Ok(Some(query)),
+        Err(fault) => {
+            if matches!(fault.kind, TextKind::NoMemory) {
+                Err(NoMemory)
+            } else {
+                Ok(None)
+            }
         }
     }
-    None
 }
