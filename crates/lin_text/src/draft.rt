@@ -1,6 +1,6 @@
 //! A query while it is read: what its lines so far declare and compare.
-ghost use Rattle.std.specs.Prelude.{◌≡◌, ◌≤◌, [], length};
-ghost use Rattle.lin_model.specs.Conditions.{Fits};
+ghost use Rattle.std.specs.Prelude.{◌≡◌, ◌≤◌, [], length, All, AllPairs};
+ghost use Rattle.lin_model.specs.Conditions.{Fits, Differ, AtomNamesBelow};
 ghost use Rattle.lin_text.specs.Reading.{Gives, line_at, var_line_at, atom_line_at, full_query_at, begins_atom_class};
 ghost use Rattle.lin_text.specs.Queries.{names_of};
 
@@ -46,8 +46,10 @@ impl Draft {
 
     /// The condition that was read.
     pub fn into_condition(self) -> Condition
-        requires { Fits self.vars self.atoms }
-        ensures { result ≡ self }
+        requires distinct { AllPairs Differ self.vars }
+        requires in_range { All (AtomNamesBelow (length self.vars)) self.atoms }
+        ensures value { result ≡ self }
+        ensures fits { Fits result.vars result.atoms }
     {
         let Draft {
             names: _,

@@ -2,6 +2,7 @@
 ghost use Rattle.std.specs.Prelude.{◌≡◌, ◌≤◌, length, IfOk, IfErr};
 ghost use Rattle.lin_text.specs.Lines.{StartsLine};
 ghost use Rattle.lin_text.specs.Queries.{Spells};
+ghost use Rattle.lin_text.specs.Reading.{is_word_class};
 ghost use Rattle.lin_text.specs.Answers.{IsReadError, IsFault};
 
 use crate::class::{Class, next_lexeme};
@@ -11,6 +12,13 @@ use crate::lines::{column, first_line, line_below, line_number};
 use crate::refusal::ReadError;
 use lin_model::Condition;
 use std::alloc::Global;
+
+/// Whether the token is a reserved word other than `var`.
+fn is_word(class: Class) -> bool
+    ensures { result ≡ is_word_class class }
+{
+    matches!(class, Class::Word)
+}
 
 /// Reads the lines of a query from `start` on.
 fn read_lines(
@@ -27,7 +35,7 @@ fn read_lines(
     let mut at = first_line(bytes, start);
     while at < bytes.len() {
         let first = next_lexeme(bytes, in_proof, at);
-        if matches!(first.class, Class::Word) {
+        if is_word(first.class) {
             return Ok((query.into_condition(), at));
         }
         query = query.with_line(alloc, bytes, in_proof, first, at)?;
