@@ -24,3 +24,4 @@ mod ReadBackLines
 mod ReadBackFront
 mod ReadBack
 mod ReadBackWithin
+mod SpelledConditions

@@ -1,7 +1,8 @@
 //! Small sessions: one executor with one query, spelled plainly.
-ghost use Rattle.std.specs.Prelude.{◌≡◌, ◌≢◌, ◌++◌, ℕ, List, Some, IfOk, IfSome, IfNone, MatchOption};
+ghost use Rattle.std.specs.Prelude.{◌≡◌, ◌≢◌, ◌++◌, ℕ, List, Some, IsTrue, ◌↔◌, IfOk, IfSome, IfNone, MatchOption};
 ghost use Rattle.lin_model.specs.Conditions.{PlainCondition, IsCondition};
 ghost use Rattle.lin_text.specs.Spelling.{condition_text};
+ghost use Rattle.lin_text.specs.declared.fault.TextKind.TheVariants as kinds;
 ghost use Rattle.lin_text.specs.Small.{SpellsSmall, head_text, end_text};
 
 use crate::fault::TextKind;
@@ -69,11 +70,17 @@ fn query_of(alloc: Global, body: &[u8]) -> Result<Option<Condition>, NoMemory>
     match read_query(alloc, body, 0, false) {
         Ok((query, _)) => Ok(Some(query)),
         Err(fault) => {
-            if matches!(fault.kind, TextKind::NoMemory) {
+            if is_memory(fault.kind) {
                 Err(NoMemory)
             } else {
                 Ok(None)
             }
         }
     }
+}
+
+fn is_memory(kind: TextKind) -> bool
+    ensures { IsTrue result ↔ kind ≡ kinds.NoMemory }
+{
+    matches!(kind, TextKind::NoMemory)
 }
