@@ -24,3 +24,7 @@ mod ReadBackLines
 mod ReadBackFront
 mod ReadBack
 mod ReadBackWithin
+mod UniqueTokens
+mod UniqueSides
+mod UniqueTerms
+mod Unique

@@ -1,5 +1,5 @@
 -- Laws of the texts of conditions.
-use Rattle.std.specs.Prelude.{◌≡◌, ℕ, ◌+◌, false, ◌⊎◌, List, [], ◌++◌, length}
+use Rattle.std.specs.Prelude.{◌≡◌, ℕ, ◌+◌, Bool, false, ◌⊎◌, List, [], ◌++◌, length}
 use Rattle.lin_model.specs.Conditions.{PlainCondition, IsCondition}
 use Rattle.lin_text.specs.Spelling.{condition_text}
 use Rattle.lin_text.specs.Pieces.{word, first_token}
@@ -17,3 +17,8 @@ EndsQuery rest = (rest ≡ []) ⊎ ((w : List ℕ) × ((first_token false rest 0
 abbrev pub WrittenIsSpelledWithin : Type 0
 WrittenIsSpelledWithin =
     (front rest : List ℕ) (q : PlainCondition) → IsCondition q → EndsQuery rest → Spells false (front ++ (condition_text q ++ rest)) (length front) q (length front + length (condition_text q))
+
+-- a text spells one condition at most from a place on, and up to one place
+abbrev pub SpelledOnce : Type 0
+SpelledOnce =
+    (in_proof : Bool) (bytes : List ℕ) (at : ℕ) (q r : PlainCondition) (e f : ℕ) → Spells in_proof bytes at q e → Spells in_proof bytes at r f → (q ≡ r) × (e ≡ f)

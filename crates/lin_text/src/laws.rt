@@ -1,5 +1,5 @@
 //! Laws of the texts of conditions, each the contract of a function that does nothing.
-ghost use Rattle.lin_text.specs.Laws.{WrittenIsSpelled, WrittenIsSpelledWithin};
+ghost use Rattle.lin_text.specs.Laws.{SpelledOnce, WrittenIsSpelled, WrittenIsSpelledWithin};
 
 /// What is written for a condition is spelled as that condition, in the sense of the grammar.
 pub fn written_is_spelled()
@@ -9,4 +9,9 @@ pub fn written_is_spelled()
 /// So it is within a text, where nothing follows it, or a line that begins with a reserved word other than `var`.
 pub fn written_is_spelled_within()
     ensures { WrittenIsSpelledWithin }
+{}
+
+/// A text spells one condition at most from a place on, and up to one place.
+pub fn spelled_once()
+    ensures { SpelledOnce }
 {}
