@@ -25,3 +25,7 @@ mod ReadBackFront
 mod ReadBack
 mod ReadBackWithin
 mod SpelledConditions
+mod UniqueTokens
+mod UniqueSides
+mod UniqueTerms
+mod Unique

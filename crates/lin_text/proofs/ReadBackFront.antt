@@ -1,17 +1,15 @@
 -- The first token of a text, wherever the text stands.
-use Rattle.std.proofs.Common.{◌≡◌, ℕ, ◌+◌, ◌-◌, ◌<◌, ◌≤◌, zero, suc, Bool, true, false, cond, not, List, [], ◌∷◌, length, take, drop, refl, sym, ap, subst, ◌∙◌, arith, nat_lt, length-drop}
-use Rattle.std.specs.Prelude.{◌||◌, ◌&&◌, ◌==◌, MatchBool}
+use Rattle.std.proofs.Common.{◌≡◌, ℕ, ◌+◌, ◌-◌, Bool, true, false, cond, List, [], ◌∷◌, take, drop, refl, sym, ap, subst, ◌∙◌, arith}
+use Rattle.std.specs.Prelude.{◌||◌, ◌==◌}
 use Rattle.std.specs.List.{prefix_len}
 use Rattle.std.proofs.lemmas.List.{drop-drop}
-use Rattle.std.proofs.lemmas.Bool.{eqb-true, ltb-true, ltb-false}
-use Rattle.std.proofs.Math.ListN.{drop_of_length-le}
-use Rattle.lin_model.specs.Names.{is_name_start, is_name_byte, is_digit}
-use Rattle.lin_text.specs.Lines.{is_feed, is_blank, is_skipped, ends_or_comments, first_line, line_from, line_below}
-use Rattle.lin_text.specs.Tokens.{token_from, token_here, token_of, token_length, kind_of, symbol_length, nothing_at}
+use Rattle.std.proofs.lemmas.Bool.{eqb-true}
+use Rattle.lin_text.specs.Lines.{is_feed, is_blank, is_skipped, ends_or_comments}
+use Rattle.lin_text.specs.Tokens.{token_from, token_here, token_of, token_length, kind_of, nothing_at}
 use Rattle.lin_text.specs.declared.token.Token.{Token}
 use Rattle.lin_text.specs.declared.token.TokenKind.{TokenKind}
-use Rattle.lin_text.specs.declared.token.TokenKind.TheVariants.{Name, Number, Symbol, Bad, LineEnd}
-use Rattle.lin_text.specs.Pieces.{Piece, word, piece_of, PlainToken, PlainLine, plain_token, first_token, is_last, AreTokens, AreLines}
+use Rattle.lin_text.specs.declared.token.TokenKind.TheVariants.{Bad, LineEnd}
+use Rattle.lin_text.specs.Pieces.{Piece, word, piece_of, plain_token, first_token}
 
 -- what stands behind the blanks at the front
 abbrev pub behind_blanks : List ℕ → List ℕ

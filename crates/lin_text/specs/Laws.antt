@@ -19,9 +19,10 @@ abbrev pub WrittenIsSpelledWithin : Type 0
 WrittenIsSpelledWithin =
     (front rest : List ℕ) (q : PlainCondition) → IsCondition q → EndsQuery rest → Spells false (front ++ (condition_text q ++ rest)) (length front) q (length front + length (condition_text q))
 
--- a text spells one condition at most, up to one place
+-- a text spells one condition at most from a place on, and up to one place
 abbrev pub SpelledOnce : Type 0
-SpelledOnce = (in_proof : Bool) (bytes : List ℕ) (at : ℕ) (q r : PlainCondition) (e f : ℕ) → Spells in_proof bytes at q e → Spells in_proof bytes at r f → (q ≡ r) × (e ≡ f)
+SpelledOnce =
+    (in_proof : Bool) (bytes : List ℕ) (at : ℕ) (q r : PlainCondition) (e f : ℕ) → Spells in_proof bytes at q e → Spells in_proof bytes at r f → (q ≡ r) × (e ≡ f)
 
 -- a text that spells a condition has no fault
 abbrev pub SpelledHasNoFault : Type 0

@@ -1,5 +1,5 @@
 //! Laws of the texts of conditions, each the contract of a function that does nothing.
-ghost use Rattle.lin_text.specs.Laws.{WrittenIsSpelled, WrittenIsSpelledWithin, SpelledOnce, SpelledHasNoFault};
+ghost use Rattle.lin_text.specs.Laws.{SpelledHasNoFault, SpelledOnce, WrittenIsSpelled, WrittenIsSpelledWithin};
 
 /// What is written for a condition is spelled as that condition, in the sense of the grammar.
 pub fn written_is_spelled()
@@ -11,7 +11,7 @@ pub fn written_is_spelled_within()
     ensures { WrittenIsSpelledWithin }
 {}
 
-/// A text spells at most one condition, up to one place.
+/// A text spells one condition at most from a place on, and up to one place.
 pub fn spelled_once()
     ensures { SpelledOnce }
 {}
