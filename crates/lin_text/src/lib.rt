@@ -12,6 +12,8 @@ mod refusal;
 mod run;
 mod side;
 mod small;
+#[cfg(test)]
+mod tests;
 mod token;
 mod write;
 
