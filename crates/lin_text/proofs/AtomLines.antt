@@ -26,12 +26,13 @@ LineOut above front ts N (Err f) = Fails above front ts f
 -- behind tokens that were passed
 pub LineOut-behind : {X : Type 0} (p : Bool) (bytes : List ℕ) (above : List PlainLine) (v : Bool) (front : List Piece) (at : ℕ) (ts : List PlainToken) (N : X → List Piece → Type 0) (a : ℕ) (s : Place) (ps : List Piece) (r : Result X Fault) (got : Gets p bytes above v front ts a s ps) → LineOut above (front ++ ps) got.rest (λ x qs. N x (ps ++ qs)) r → LineOut above front ts N r
 LineOut-behind {X} p bytes above v front at ts N a s ps (Ok y) got h =
-    let all : pieces ts ≡ pieces got.used ++ pieces got.rest = ap pieces got.split ∙ map-append (λ (t : PlainToken). t.piece) got.used got.rest in
-    (subst (λ (qs : List Piece). N y qs) (sym (all ∙ ap (λ (qs : List Piece). qs ++ pieces got.rest) got.are)) h.0,
-     subst (λ (qs : List Piece). Passes above front qs []) (sym all)
-     (Passes-append above front (pieces got.used) (pieces got.rest) []
-       (subst (λ (qs : List Piece). Passes above front (pieces got.used) qs) (sym (append-nil (pieces got.rest))) got.passes)
-       (subst (λ (f : List Piece). Passes above (front ++ f) (pieces got.rest) []) (sym got.are) h.1)))
+    let all : pieces ts ≡ pieces got.used ++ pieces got.rest = ap pieces got.split ∙ map-append (λ (t : PlainToken). t.piece) got.used got.rest in (
+      subst (λ (qs : List Piece). N y qs) (sym (all ∙ ap (λ (qs : List Piece). qs ++ pieces got.rest) got.are)) h.0,
+      subst (λ (qs : List Piece). Passes above front qs []) (sym all)
+          (Passes-append above front (pieces got.used) (pieces got.rest) []
+          (subst (λ (qs : List Piece). Passes above front (pieces got.used) qs) (sym (append-nil (pieces got.rest))) got.passes)
+          (subst (λ (f : List Piece). Passes above (front ++ f) (pieces got.rest) []) (sym got.are) h.1)),
+    )
 LineOut-behind p bytes above v front at ts N a s ps (Err f) got h = Fails-behind p bytes above v front at ts a s ps f got h
 
 pub LineOut-then : {A X : Type 0} (p : Bool) (bytes : List ℕ) (above : List PlainLine) (v : Bool) (front : List Piece) (at : ℕ) (ts : List PlainToken) (M : A → ℕ → List Piece → Place → Type 0) (N : X → List Piece → Type 0) (r : Result (A × ℕ) Fault) (g : A × ℕ → Result X Fault) → Outcome p bytes above v front ts M r → ((a : A) (to : ℕ) (ps : List Piece) (s : Place) → M a to ps s → At v (front ++ ps) s → (rest : List PlainToken) → AreTokens p bytes to rest → LineOut above (front ++ ps) rest (λ x qs. N x (ps ++ qs)) (g (a, to))) → LineOut above front ts N (r >>= g)
@@ -44,13 +45,15 @@ module _ (p : Bool) (bytes : List ℕ) (above : List PlainLine) (v : Bool) (fron
   end_by : {X : Type 0} (N : X → List Piece → Type 0) (x : X) → N x (line_end ∷ []) → (q : Piece) → t.token.piece ≡ q → LineOut above front ts N (cond (is_end_class (class_of q)) (Ok x) (Err (refusal (shown t.token))))
   end_by N x means line_end is =
       let alone : ts ≡ t.token ∷ [] = t.split ∙ ap (λ (us : List PlainToken). t.token ∷ us) (t.over (ap is_last is)) in
-      let only : pieces ts ≡ t.token.piece ∷ [] = ap pieces alone in
-      (subst (λ (qs : List Piece). N x qs) (sym (only ∙ ap (λ (q : Piece). q ∷ []) is)) means,
-       subst (λ (qs : List Piece). Passes above front qs []) (sym only)
-       (sign_passed above v front w done t.token.piece [] here room (ap (next w) is ∙ ends) space
-         (λ n same. let no : line_end ≡ number n = sym is ∙ same in cc)
-         (λ y same. let no : line_end ≡ name y = sym is ∙ same in cc),
-        tt))
+      let only : pieces ts ≡ t.token.piece ∷ [] = ap pieces alone in (
+        subst (λ (qs : List Piece). N x qs) (sym (only ∙ ap (λ (q : Piece). q ∷ []) is)) means,
+        subst (λ (qs : List Piece). Passes above front qs []) (sym only) (
+          sign_passed above v front w done t.token.piece [] here room (ap (next w) is ∙ ends) space
+              (λ n same. let no : line_end ≡ number n = sym is ∙ same in cc)
+              (λ y same. let no : line_end ≡ name y = sym is ∙ same in cc),
+          tt,
+        ),
+      )
   end_by N x means q is =
       Fails-one p bytes above v front at ts t _ (refused above v front w t.token.piece (pieces t.more) here room (other (ap (λ (r : Piece). is_end_class (class_of r)) is)))
 
@@ -97,18 +100,21 @@ module _ (p : Bool) (bytes : List ℕ) (above : List PlainLine) (front : List Pi
   sign_room = record { vars = λ e _. after-some false true k bare front here e; atoms = λ e _ _. after-some false true k bare front here e }
 
   sign_by : (q : Piece) → t.token.piece ≡ q → Outcome p bytes above false front ts IsSign (comparison_by (class_of q) (shown t.token))
-  sign_by (compare c) is =
-      (t.token.piece ∷ [], item false 0, (ap (λ (r : Piece). r ∷ []) is, refl),
-       Gets-one p bytes above false front at ts t (item false 0)
-       (sign_passed above false front (after true k bare) (item false 0) t.token.piece (pieces t.more) here sign_room (ap (next (after true k bare)) is ∙ goes bare) (λ l e. cc)
-         (λ n same. let no : compare c ≡ number n = sym is ∙ same in cc)
-         (λ y same. let no : compare c ≡ name y = sym is ∙ same in cc))
-       (At-next false front (after true k bare) (item false 0) t.token.piece here sign_room.vars (ap (next (after true k bare)) is ∙ goes bare))
-       (ap is_last is))
+  sign_by (compare c) is = (
+    t.token.piece ∷ [],
+    item false 0,
+    (ap (λ (r : Piece). r ∷ []) is, refl),
+    Gets-one p bytes above false front at ts t (item false 0)
+        (sign_passed above false front (after true k bare) (item false 0) t.token.piece (pieces t.more) here sign_room (ap (next (after true k bare)) is ∙ goes bare) (λ l e. cc)
+        (λ n same. let no : compare c ≡ number n = sym is ∙ same in cc)
+        (λ y same. let no : compare c ≡ name y = sym is ∙ same in cc))
+        (At-next false front (after true k bare) (item false 0) t.token.piece here sign_room.vars (ap (next (after true k bare)) is ∙ goes bare))
+        (ap is_last is),
+  )
     where
-    goes : (b : Bool) → next (after true k b) (compare c) ≡ Some (item false 0)
-    goes true = refl
-    goes false = refl
+      goes : (b : Bool) → next (after true k b) (compare c) ≡ Some (item false 0)
+      goes true = refl
+      goes false = refl
   sign_by q is =
       refuse p bytes above front at ts t sign_room (after true k bare) here
       (left_ends k bare t.token.piece (ap (λ (x : Lexeme). is_joint x.class) (sym t.shows) ∙ no_joint) (λ b. ap (λ (x : Lexeme). is_times x.class) (sym t.shows) ∙ no_times b) (ap is_compare is))
@@ -122,10 +128,10 @@ atom_means names ls rs lps cps rps c left right l s r ml mr = record {
   left = left;
   right = right;
   written =
-    ap (λ (qs : List Piece). qs ++ (cps ++ (rps ++ line_end ∷ []))) l
-    ∙ ap (λ (qs : List Piece). side_pieces left ++ (qs ++ (rps ++ line_end ∷ []))) s
-    ∙ ap (λ (qs : List Piece). side_pieces left ++ (compare c ∷ (qs ++ line_end ∷ []))) r
-    ∙ sym (append_assoc (side_pieces left) (compare c ∷ side_pieces right) (line_end ∷ []));
+      ap (λ (qs : List Piece). qs ++ (cps ++ (rps ++ line_end ∷ []))) l
+      ∙ ap (λ (qs : List Piece). side_pieces left ++ (qs ++ (rps ++ line_end ∷ []))) s
+      ∙ ap (λ (qs : List Piece). side_pieces left ++ (compare c ∷ (qs ++ line_end ∷ []))) r
+      ∙ sym (append_assoc (side_pieces left) (compare c ∷ side_pieces right) (line_end ∷ []));
   left_terms = ml;
   right_terms = mr;
 }
@@ -137,29 +143,30 @@ atom_out p bytes above at ts t no_var few =
     LineOut-then p bytes above false [] at ts (IsWholeSide p bytes (declared_names above) true) (λ atom ps. Compares (declared_names above) ps atom) (side_at p bytes (declared_names above) at) _
     (side_out p bytes above [] at ts true At-start t (record { vars = λ _ e. no_var e; atoms = λ _ _ e. few e }))
     (λ ls to1 lps s1 left place1 rest1 are1.
-      let t1 = token_of p bytes to1 rest1 are1 in
-      let here1 : At false ([] ++ lps) (after true left.1 left.2) = subst (λ (u : Place). At false ([] ++ lps) u) left.5 place1 in
-      LineOut-then p bytes above false ([] ++ lps) to1 rest1 (IsSign p bytes above ([] ++ lps) to1 rest1 left.1 left.2 here1 left.6 left.7 t1) (λ atom qs. Compares (declared_names above) (lps ++ qs) atom) (comparison_at p bytes to1) _
-      (sign_out p bytes above ([] ++ lps) to1 rest1 left.1 left.2 here1 left.6 left.7 t1)
-      (λ c to2 cps s2 sign place2 rest2 are2.
-        let t2 = token_of p bytes to2 rest2 are2 in
-        let here2 : At false (([] ++ lps) ++ cps) (item false 0) = subst (λ (u : Place). At false (([] ++ lps) ++ cps) u) sign.1 place2 in
-        LineOut-then p bytes above false (([] ++ lps) ++ cps) to2 rest2 (IsWholeSide p bytes (declared_names above) false) (λ atom qs. Compares (declared_names above) (lps ++ (cps ++ qs)) atom) (side_at p bytes (declared_names above) to2) _
-        (side_out p bytes above (([] ++ lps) ++ cps) to2 rest2 false here2 t2 (sign_behind above ([] ++ lps) cps c t2.token.piece sign.0))
-        (λ rs to3 rps s3 right place3 rest3 are3.
-          let t3 = token_of p bytes to3 rest3 are3 in
-          let front3 = (([] ++ lps) ++ cps) ++ rps in
-          let here3 : At false front3 (after false right.1 right.2) = subst (λ (u : Place). At false front3 u) right.5 place3 in
-          end_out p bytes above false front3 to3 rest3 t3 (record { vars = λ e _. after-some false false right.1 right.2 front3 here3 e; atoms = λ e _ _. after-some false false right.1 right.2 front3 here3 e })
-          (after false right.1 right.2) here3 (ends right.1 right.2)
-          (λ no_end. right_ends right.1 right.2 t3.token.piece (ap (λ (x : Lexeme). is_joint x.class) (sym t3.shows) ∙ right.7) (λ b. ap (λ (x : Lexeme). is_times x.class) (sym t3.shows) ∙ right.6 b) no_end)
-          (λ l e. cc)
-          (λ atom qs. Compares (declared_names above) (lps ++ (cps ++ (rps ++ qs))) atom) (record { left = ls; cmp = c; right = rs })
-          (atom_means (declared_names above) ls rs lps cps rps c left.0 right.0 left.3 sign.0 right.3 left.4 right.4))))
+    let t1 = token_of p bytes to1 rest1 are1 in
+    let here1 : At false ([] ++ lps) (after true left.1 left.2) = subst (λ (u : Place). At false ([] ++ lps) u) left.5 place1 in
+    LineOut-then p bytes above false ([] ++ lps) to1 rest1 (IsSign p bytes above ([] ++ lps) to1 rest1 left.1 left.2 here1 left.6 left.7 t1) (λ atom qs. Compares (declared_names above) (lps ++ qs) atom) (comparison_at p bytes to1) _
+    (sign_out p bytes above ([] ++ lps) to1 rest1 left.1 left.2 here1 left.6 left.7 t1)
+    (λ c to2 cps s2 sign place2 rest2 are2.
+    let t2 = token_of p bytes to2 rest2 are2 in
+    let here2 : At false (([] ++ lps) ++ cps) (item false 0) = subst (λ (u : Place). At false (([] ++ lps) ++ cps) u) sign.1 place2 in
+    LineOut-then p bytes above false (([] ++ lps) ++ cps) to2 rest2 (IsWholeSide p bytes (declared_names above) false) (λ atom qs. Compares (declared_names above) (lps ++ (cps ++ qs)) atom) (side_at p bytes (declared_names above) to2) _
+    (side_out p bytes above (([] ++ lps) ++ cps) to2 rest2 false here2 t2 (sign_behind above ([] ++ lps) cps c t2.token.piece sign.0))
+    (λ rs to3 rps s3 right place3 rest3 are3.
+    let t3 = token_of p bytes to3 rest3 are3 in
+    let front3 = (([] ++ lps) ++ cps) ++ rps in
+    let here3 : At false front3 (after false right.1 right.2) = subst (λ (u : Place). At false front3 u) right.5 place3 in
+    end_out p bytes above false front3 to3 rest3 t3 (record { vars = λ e _. after-some false false right.1 right.2 front3 here3 e; atoms = λ e _ _. after-some false false right.1 right.2 front3 here3 e })
+    (after false right.1 right.2) here3 (ends right.1 right.2)
+    (λ no_end. right_ends right.1 right.2 t3.token.piece (ap (λ (x : Lexeme). is_joint x.class) (sym t3.shows) ∙ right.7) (λ b. ap (λ (x : Lexeme). is_times x.class) (sym t3.shows) ∙ right.6 b) no_end)
+    (λ l e. cc)
+    (λ atom qs. Compares (declared_names above) (lps ++ (cps ++ (rps ++ qs))) atom) (record { left = ls; cmp = c; right = rs })
+    (atom_means (declared_names above) ls rs lps cps rps c left.0 right.0 left.3 sign.0 right.3 left.4 right.4))))
   where
-  ends : (k : ℕ) (bare : Bool) → next (after false k bare) line_end ≡ Some done
-  ends k true = refl
-  ends k false = refl
-  sign_behind : (above : List PlainLine) (front cps : List Piece) (c : Cmp) (q : Piece) → cps ≡ compare c ∷ [] → IsRoom above (front ++ cps) q
-  sign_behind above front cps c q e =
-      record { vars = λ f _. not-nil front (compare c) (ap (λ (qs : List Piece). front ++ qs) (sym e) ∙ f); atoms = λ f _ _. not-nil front (compare c) (ap (λ (qs : List Piece). front ++ qs) (sym e) ∙ f) }
+    ends : (k : ℕ) (bare : Bool) → next (after false k bare) line_end ≡ Some done
+    ends k true = refl
+    ends k false = refl
+
+    sign_behind : (above : List PlainLine) (front cps : List Piece) (c : Cmp) (q : Piece) → cps ≡ compare c ∷ [] → IsRoom above (front ++ cps) q
+    sign_behind above front cps c q e =
+        record { vars = λ f _. not-nil front (compare c) (ap (λ (qs : List Piece). front ++ qs) (sym e) ∙ f); atoms = λ f _ _. not-nil front (compare c) (ap (λ (qs : List Piece). front ++ qs) (sym e) ∙ f) }

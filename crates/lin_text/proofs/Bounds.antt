@@ -90,25 +90,29 @@ module _ (p : Bool) (bytes : List ℕ) (above : List PlainLine) (front : List Pi
   unfolding bound_of
   bound_out w u here t num other space = by_piece t.token.piece refl
     where
-    by_number : (n : ℕ) → t.token.piece ≡ number n → (b : Bool) → nat_lt (2 ^ 31) (min n (2 ^ 40 + 1)) ≡ b → Outcome p bytes above true front ts (IsBound u) (cond b (Err (fault_at NumberTooLarge t.token.from)) (Ok (pos (min n (2 ^ 40 + 1)), t.token.to)))
-    by_number n is true e =
-        Fails-one p bytes above true front at ts t NumberTooLarge (record {
-          stands = (n, is, inl (subst (λ (b : Bool). MatchBool b (2 ^ 31 < n) (2 ^ 40 < n)) (sym here.kind) (over_limit n e)));
-          least = small_rank above true front w u t.token.piece (pieces t.more) here (room t.token.piece) (ap (next w) is ∙ num n) space;
-        })
-    by_number n is false e =
-        let small = within_limit n e in
-        (t.token.piece ∷ [], u, (n, ap (λ (q : Piece). q ∷ []) is, ap pos (same_number n small), small, refl),
-         Gets-one p bytes above true front at ts t u
-         (passed above true front w u t.token.piece (pieces t.more) here (room t.token.piece) (ap (next w) is ∙ num n) space
-           (λ m same big. not_too_large front m (pieces t.more) here.kind (let eq : m ≡ n = cc in omega arith) big)
-           (λ x same. let no : number n ≡ name x = sym is ∙ same in absurd (cc))
-           (λ x same. let no : number n ≡ name x = sym is ∙ same in absurd (cc)))
-         (At-next true front w u t.token.piece here (λ e _. some e) (ap (next w) is ∙ num n))
-         (ap is_last is))
-    by_piece : (q : Piece) → t.token.piece ≡ q → Outcome p bytes above true front ts (IsBound u) (bound_by (class_of q) (shown t.token))
-    by_piece (number n) is = by_number n is (nat_lt (2 ^ 31) (min n (2 ^ 40 + 1))) refl
-    by_piece _ is = refuse w here t (other (ap is_number is))
+      by_number : (n : ℕ) → t.token.piece ≡ number n → (b : Bool) → nat_lt (2 ^ 31) (min n (2 ^ 40 + 1)) ≡ b → Outcome p bytes above true front ts (IsBound u) (cond b (Err (fault_at NumberTooLarge t.token.from)) (Ok (pos (min n (2 ^ 40 + 1)), t.token.to)))
+      by_number n is true e =
+          Fails-one p bytes above true front at ts t NumberTooLarge (record {
+            stands = (n, is, inl (subst (λ (b : Bool). MatchBool b (2 ^ 31 < n) (2 ^ 40 < n)) (sym here.kind) (over_limit n e)));
+            least = small_rank above true front w u t.token.piece (pieces t.more) here (room t.token.piece) (ap (next w) is ∙ num n) space;
+          })
+      by_number n is false e =
+          let small = within_limit n e in (
+            t.token.piece ∷ [],
+            u,
+            (n, ap (λ (q : Piece). q ∷ []) is, ap pos (same_number n small), small, refl),
+            Gets-one p bytes above true front at ts t u
+                (passed above true front w u t.token.piece (pieces t.more) here (room t.token.piece) (ap (next w) is ∙ num n) space
+                (λ m same big. not_too_large front m (pieces t.more) here.kind (let eq : m ≡ n = cc in omega arith) big)
+                (λ x same. let no : number n ≡ name x = sym is ∙ same in absurd (cc))
+                (λ x same. let no : number n ≡ name x = sym is ∙ same in absurd (cc)))
+                (At-next true front w u t.token.piece here (λ e _. some e) (ap (next w) is ∙ num n))
+                (ap is_last is),
+          )
+
+      by_piece : (q : Piece) → t.token.piece ≡ q → Outcome p bytes above true front ts (IsBound u) (bound_by (class_of q) (shown t.token))
+      by_piece (number n) is = by_number n is (nat_lt (2 ^ 31) (min n (2 ^ 40 + 1))) refl
+      by_piece _ is = refuse w here t (other (ap is_number is))
 
 -- an integer where one may stand
 module _ (p : Bool) (bytes : List ℕ) (above : List PlainLine) (front : List Piece) (at : ℕ) (ts : List PlainToken) (some : front ≡ [] → ⊥) (s m u : Place) (places : AreBoundPlaces s m u) (here : At true front s) where
@@ -125,9 +129,9 @@ module _ (p : Bool) (bytes : List ℕ) (above : List PlainLine) (front : List Pi
   sign_got t is =
       Gets-one p bytes above true front at ts t m
       (passed above true front s m t.token.piece (pieces t.more) here (room p bytes above front at ts some t.token.piece) (ap (next s) is ∙ places.minus_s) places.room_s
-        (λ n same. let no : minus ≡ number n = sym is ∙ same in absurd (cc))
-        (λ x same. let no : minus ≡ name x = sym is ∙ same in absurd (cc))
-        (λ x same. let no : minus ≡ name x = sym is ∙ same in absurd (cc)))
+      (λ n same. let no : minus ≡ number n = sym is ∙ same in absurd (cc))
+      (λ x same. let no : minus ≡ name x = sym is ∙ same in absurd (cc))
+      (λ x same. let no : minus ≡ name x = sym is ∙ same in absurd (cc)))
       (At-next true front s m t.token.piece here (λ e _. some e) (ap (next s) is ∙ places.minus_s))
       (ap is_last is)
 
@@ -137,9 +141,9 @@ module _ (p : Bool) (bytes : List ℕ) (above : List PlainLine) (front : List Pi
       let next_token = token_of p bytes t.token.to got.rest got.there in
       Outcome-after p bytes above true front at ts (IsIntegerAt u) t.token.to m (t.token.piece ∷ []) _ got
       (Outcome-map p bytes above true (front ++ t.token.piece ∷ []) got.rest (IsBound u) (λ z to qs w. IsIntegerAt u z to ((t.token.piece ∷ []) ++ qs) w) neg_ℤ (bound_of (lexeme_at p bytes t.token.to))
-        (λ z to qs w b. (record { negative = true; size = b.0 }, ap (λ (q : Piece). q ∷ qs) is ∙ ap (λ (rs : List Piece). minus ∷ rs) b.1, ap neg_ℤ b.2, b.3, b.4))
-        (subst (λ (l : Lexeme). Outcome p bytes above true (front ++ t.token.piece ∷ []) got.rest (IsBound u) (bound_of l)) (sym next_token.shows)
-          (bound_out p bytes above (front ++ t.token.piece ∷ []) t.token.to got.rest (not-nil front t.token.piece) m u got.place next_token places.number_m (λ e. places.other_m next_token.token.piece e) places.room_m)))
+      (λ z to qs w b. (record { negative = true; size = b.0 }, ap (λ (q : Piece). q ∷ qs) is ∙ ap (λ (rs : List Piece). minus ∷ rs) b.1, ap neg_ℤ b.2, b.3, b.4))
+      (subst (λ (l : Lexeme). Outcome p bytes above true (front ++ t.token.piece ∷ []) got.rest (IsBound u) (bound_of l)) (sym next_token.shows)
+      (bound_out p bytes above (front ++ t.token.piece ∷ []) t.token.to got.rest (not-nil front t.token.piece) m u got.place next_token places.number_m (λ e. places.other_m next_token.token.piece e) places.room_m)))
 
   by_piece : (t : Token p bytes at ts) → (q : Piece) → t.token.piece ≡ q → Outcome p bytes above true front ts (IsIntegerAt u) (by_lexeme (shown t.token))
   unfolding by_lexeme

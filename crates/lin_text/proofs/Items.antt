@@ -34,15 +34,18 @@ module _ (p : Bool) (bytes : List ℕ) (above : List PlainLine) (front : List Pi
         least = name_rank above false front w u t.token.piece (pieces t.more) here room (ap (next w) is ∙ some) space (λ n same. let no : name x ≡ number n = sym is ∙ same in cc);
       })
   found w u here x is some space f (Some k) e =
-      let there : position (bytes_eq x) (declared_names above) ≡ Some k = ap (λ (y : List ℕ). position (bytes_eq y) (declared_names above)) (name-text p bytes at t.token x t.is is) ∙ e in
-      (t.token.piece ∷ [], u, (x, k, ap (λ (q : Piece). q ∷ []) is, refl, position-found x (declared_names above) k there, refl),
-       Gets-one p bytes above false front at ts t u
-       (passed above false front w u t.token.piece (pieces t.more) here room (ap (next w) is ∙ some) space
-         (λ n same. let no : name x ≡ number n = sym is ∙ same in absurd (cc))
-         (λ y same _. let eq : x ≡ y = (let no : name x ≡ name y = sym is ∙ same in cc) in subst (λ (z : List ℕ). Contains (declared_names above) z) eq (Contains-position x (declared_names above) k there))
-         (λ y same first. let no : true ≡ false = ap begins_variable (sym first) ∙ here.kind in absurd (cc)))
-       (At-next false front w u t.token.piece here room.vars (ap (next w) is ∙ some))
-       (ap is_last is))
+      let there : position (bytes_eq x) (declared_names above) ≡ Some k = ap (λ (y : List ℕ). position (bytes_eq y) (declared_names above)) (name-text p bytes at t.token x t.is is) ∙ e in (
+        t.token.piece ∷ [],
+        u,
+        (x, k, ap (λ (q : Piece). q ∷ []) is, refl, position-found x (declared_names above) k there, refl),
+        Gets-one p bytes above false front at ts t u
+            (passed above false front w u t.token.piece (pieces t.more) here room (ap (next w) is ∙ some) space
+            (λ n same. let no : name x ≡ number n = sym is ∙ same in absurd (cc))
+            (λ y same _. let eq : x ≡ y = (let no : name x ≡ name y = sym is ∙ same in cc) in subst (λ (z : List ℕ). Contains (declared_names above) z) eq (Contains-position x (declared_names above) k there))
+            (λ y same first. let no : true ≡ false = ap begins_variable (sym first) ∙ here.kind in absurd (cc)))
+            (At-next false front w u t.token.piece here room.vars (ap (next w) is ∙ some))
+            (ap is_last is),
+      )
 
   pub name_out : (w u : Place) → At false front w → (x : List ℕ) → t.token.piece ≡ name x → next w (name x) ≡ Some u → ((l : Bool) → next w minus ≡ Some (size l 64) → ⊥) → (f : ℤ) → Outcome p bytes above false front ts (IsNamed (declared_names above) f u) (variable_of bytes (declared_names above) (shown t.token) f)
   unfolding variable_of
@@ -55,11 +58,12 @@ module _ (p : Bool) (bytes : List ℕ) (above : List PlainLine) (front : List Pi
   unfolding variable_of
   variable_out w u here some other space f = by_piece t.token.piece refl
     where
-    Goal : Bool → Type 0
-    Goal b = Outcome p bytes above false front ts (IsNamed (declared_names above) f u) (cond b (variable_by (number_in (declared_names above) bytes (shown t.token)) (shown t.token) f) (Err (refusal (shown t.token))))
-    by_piece : (q : Piece) → t.token.piece ≡ q → Goal (is_name_class (class_of t.token.piece))
-    by_piece (name x) is = subst Goal (sym (ap (λ (r : Piece). is_name_class (class_of r)) is)) (found w u here x is (some x) space f _ refl)
-    by_piece q is = subst Goal (sym (ap (λ (r : Piece). is_name_class (class_of r)) is)) (refuse w here (ap (next w) is ∙ other q refl))
+      Goal : Bool → Type 0
+      Goal b = Outcome p bytes above false front ts (IsNamed (declared_names above) f u) (cond b (variable_by (number_in (declared_names above) bytes (shown t.token)) (shown t.token) f) (Err (refusal (shown t.token))))
+
+      by_piece : (q : Piece) → t.token.piece ≡ q → Goal (is_name_class (class_of t.token.piece))
+      by_piece (name x) is = subst Goal (sym (ap (λ (r : Piece). is_name_class (class_of r)) is)) (found w u here x is (some x) space f _ refl)
+      by_piece q is = subst Goal (sym (ap (λ (r : Piece). is_name_class (class_of r)) is)) (refuse w here (ap (next w) is ∙ other q refl))
 
 -- a term's factor, and which quantity it is; behind a number alone no `*` comes
 abbrev pub IsQuantityAt : Bool → List ℕ → List (List ℕ) → Bool → Bool → ℕ → PlainTerm → ℕ → List Piece → Place → Type 0
@@ -79,9 +83,9 @@ times-begins p bytes at ts are =
     let t = token_of p bytes at ts are in
     ap (λ (us : List PlainToken). begins_times (pieces us)) t.split ∙ by_piece t.token.piece (pieces t.more) ∙ ap (λ (x : Lexeme). is_times x.class) (sym t.shows)
   where
-  by_piece : (q : Piece) (qs : List Piece) → begins_times (q ∷ qs) ≡ is_times (class_of q)
-  by_piece times qs = refl
-  by_piece _ qs = refl
+    by_piece : (q : Piece) (qs : List Piece) → begins_times (q ∷ qs) ≡ is_times (class_of q)
+    by_piece times qs = refl
+    by_piece _ qs = refl
 
 over_31 : (n : ℕ) → nat_lt (2 ^ 31) (min n (2 ^ 40 + 1)) ≡ true → 2 ^ 31 < n
 over_31 n e = omega (arith, ltb-true (2 ^ 31) (min n (2 ^ 40 + 1)) e)
@@ -107,8 +111,10 @@ later_room above front q r = record { vars = λ e _. not-nil front q e; atoms = 
 module _ (p : Bool) (bytes : List ℕ) (above : List PlainLine) (front : List Piece) (at : ℕ) (ts : List PlainToken) (t : Token p bytes at ts) (room : IsRoom above front t.token.piece) (w : Place) (l : Bool) (k : ℕ) (here : At false front w) (n : ℕ) (is : t.token.piece ≡ number n) (some : next w (number n) ≡ Some (after l (suc k) true)) (space : (r : Bool) → next w minus ≡ Some (size r 64) → ⊥) (negative : Bool) where
   abbrev pub names : List (List ℕ)
   names = declared_names above
+
   abbrev pub capped : ℕ
   capped = min n (2 ^ 40 + 1)
+
   abbrev pub Goal : Result (PlainTerm × ℕ) Fault → Type 0
   Goal r = Outcome p bytes above false front ts (IsQuantityAt p bytes names negative l k) r
 
@@ -133,14 +139,16 @@ module _ (p : Bool) (bytes : List ℕ) (above : List PlainLine) (front : List Pi
   constant_out alone no_times true e = too_large (inl (subst (λ (b : Bool). MatchBool b (2 ^ 31 < n) (2 ^ 40 < n)) (sym here.kind) (over_40 n e)))
   constant_out alone no_times false e =
       let small = within_40 n e in
-      let same : capped ≡ n = omega arith in
-      (t.token.piece ∷ [], after l (suc k) true,
-       (constant n, true, ap (λ (q : Piece). q ∷ []) is, ap (signed negative) same, refl, fits_of (signed negative capped) None negative capped (2 ^ 40) refl (omega arith), refl, λ _. alone),
-       got (not_large small no_times))
+      let same : capped ≡ n = omega arith in (
+        t.token.piece ∷ [],
+        after l (suc k) true,
+        (constant n, true, ap (λ (q : Piece). q ∷ []) is, ap (signed negative) same, refl, fits_of (signed negative capped) None negative capped (2 ^ 40) refl (omega arith), refl, λ _. alone),
+        got (not_large small no_times),
+      )
     where
-    not_large : n ≤ 2 ^ 40 → begins_times (pieces t.more) ≡ false → IsTooLarge front n (pieces t.more) → ⊥
-    not_large small alone (inl big) = let lt : 2 ^ 40 < n = subst (λ (b : Bool). MatchBool b (2 ^ 31 < n) (2 ^ 40 < n)) here.kind big in omega arith
-    not_large small alone (inr big) = let no : false ≡ true = sym alone ∙ big.1 in absurd (cc)
+      not_large : n ≤ 2 ^ 40 → begins_times (pieces t.more) ≡ false → IsTooLarge front n (pieces t.more) → ⊥
+      not_large small alone (inl big) = let lt : 2 ^ 40 < n = subst (λ (b : Bool). MatchBool b (2 ^ 31 < n) (2 ^ 40 < n)) here.kind big in omega arith
+      not_large small alone (inr big) = let no : false ≡ true = sym alone ∙ big.1 in absurd (cc)
 
   within_limit : n ≤ 2 ^ 31 → IsTooLarge front n (pieces t.more) → ⊥
   within_limit small (inl big) = let lt : 2 ^ 40 < n = subst (λ (b : Bool). MatchBool b (2 ^ 31 < n) (2 ^ 40 < n)) here.kind big in omega arith
@@ -148,13 +156,16 @@ module _ (p : Bool) (bytes : List ℕ) (above : List PlainLine) (front : List Pi
 
   product_means : (x y : Piece) (term : PlainTerm) (to : ℕ) (ps : List Piece) (s : Place) → n ≤ 2 ^ 31 → x ≡ number n → y ≡ times → IsNamed names (signed negative capped) (after l (suc k) false) term to ps s → IsQuantityAt p bytes names negative l k term to ((x ∷ []) ++ ((y ∷ []) ++ ps)) s
   product_means x y term to ps s small isx isy m =
-      let same : capped ≡ n = omega arith in
-      (multiple n m.0, false,
-       ap (λ (q : Piece). q ∷ y ∷ ps) isx ∙ ap (λ (q : Piece). number n ∷ q ∷ ps) isy ∙ ap (λ (qs : List Piece). number n ∷ times ∷ qs) m.2,
-       ap (λ (u : PlainTerm). u.factor) m.3 ∙ ap (signed negative) same,
-       (m.1, ap (λ (u : PlainTerm). u.var) m.3, m.4),
-       subst (λ (u : PlainTerm). TermFits u) (sym m.3) (fits_of (signed negative capped) (Some m.1) negative capped (2 ^ 31) refl (omega arith)),
-       m.5, λ e. absurd (cc))
+      let same : capped ≡ n = omega arith in (
+        multiple n m.0,
+        false,
+        ap (λ (q : Piece). q ∷ y ∷ ps) isx ∙ ap (λ (q : Piece). number n ∷ q ∷ ps) isy ∙ ap (λ (qs : List Piece). number n ∷ times ∷ qs) m.2,
+        ap (λ (u : PlainTerm). u.factor) m.3 ∙ ap (signed negative) same,
+        (m.1, ap (λ (u : PlainTerm). u.var) m.3, m.4),
+        subst (λ (u : PlainTerm). TermFits u) (sym m.3) (fits_of (signed negative capped) (Some m.1) negative capped (2 ^ 31) refl (omega arith)),
+        m.5,
+        λ e. absurd (cc),
+      )
 
   product_out : is_times (lexeme_at p bytes t.token.to).class ≡ true → begins_times (pieces t.more) ≡ true → (b : Bool) → nat_lt (2 ^ 31) capped ≡ b → Goal (cond b (Err (fault_at NumberTooLarge t.token.from)) (variable_of bytes names (lexeme_at p bytes (lexeme_at p bytes t.token.to).to) (signed negative capped)))
   product_out follows there true e = too_large (inr (over_31 n e, there))
@@ -164,28 +175,28 @@ module _ (p : Bool) (bytes : List ℕ) (above : List PlainLine) (front : List Pi
       let sign = token_of p bytes t.token.to first.rest first.there in
       let isy : sign.token.piece ≡ times = times-only sign.token.piece (ap (λ (x : Lexeme). is_times x.class) (sym sign.shows) ∙ follows) in
       let second = Gets-one p bytes above false (front ++ t.token.piece ∷ []) t.token.to first.rest sign (factor l (suc k))
-        (sign_passed above false (front ++ t.token.piece ∷ []) (after l (suc k) true) (factor l (suc k)) sign.token.piece (pieces sign.more) first.place (later_room above front t.token.piece sign.token.piece) (ap (next (after l (suc k) true)) isy) (λ r no. cc)
-          (λ m same. let no : times ≡ number m = sym isy ∙ same in cc)
-          (λ x same. let no : times ≡ name x = sym isy ∙ same in cc))
-        (At-next false (front ++ t.token.piece ∷ []) (after l (suc k) true) (factor l (suc k)) sign.token.piece first.place (λ no _. not-nil front t.token.piece no) (ap (next (after l (suc k) true)) isy))
-        (ap is_last isy) in
+      (sign_passed above false (front ++ t.token.piece ∷ []) (after l (suc k) true) (factor l (suc k)) sign.token.piece (pieces sign.more) first.place (later_room above front t.token.piece sign.token.piece) (ap (next (after l (suc k) true)) isy) (λ r no. cc)
+      (λ m same. let no : times ≡ number m = sym isy ∙ same in cc)
+      (λ x same. let no : times ≡ name x = sym isy ∙ same in cc))
+      (At-next false (front ++ t.token.piece ∷ []) (after l (suc k) true) (factor l (suc k)) sign.token.piece first.place (λ no _. not-nil front t.token.piece no) (ap (next (after l (suc k) true)) isy))
+      (ap is_last isy) in
       let named = token_of p bytes sign.token.to second.rest second.there in
       Outcome-after p bytes above false front at ts (IsQuantityAt p bytes names negative l k) t.token.to (after l (suc k) true) (t.token.piece ∷ []) _ first
       (Outcome-after p bytes above false (front ++ t.token.piece ∷ []) t.token.to first.rest (λ b to qs u. IsQuantityAt p bytes names negative l k b to ((t.token.piece ∷ []) ++ qs) u) sign.token.to (factor l (suc k)) (sign.token.piece ∷ []) _ second
-        (Outcome-weaker p bytes above false ((front ++ t.token.piece ∷ []) ++ sign.token.piece ∷ []) second.rest (IsNamed names (signed negative capped) (after l (suc k) false)) (λ b to qs u. IsQuantityAt p bytes names negative l k b to ((t.token.piece ∷ []) ++ ((sign.token.piece ∷ []) ++ qs)) u) _
-          (λ b to qs u m. product_means t.token.piece sign.token.piece b to qs u small is isy m)
-          (subst (λ (x : Lexeme). Outcome p bytes above false ((front ++ t.token.piece ∷ []) ++ sign.token.piece ∷ []) second.rest (IsNamed names (signed negative capped) (after l (suc k) false)) (variable_of bytes names x (signed negative capped)))
-            (sym named.shows ∙ ap (λ (x : Lexeme). lexeme_at p bytes x.to) (sym sign.shows))
-            (variable_out p bytes above ((front ++ t.token.piece ∷ []) ++ sign.token.piece ∷ []) sign.token.to second.rest named (later_room above (front ++ t.token.piece ∷ []) sign.token.piece named.token.piece) (factor l (suc k)) (after l (suc k) false) second.place (λ x. refl) (other_factor l (suc k)) (λ r no. cc) (signed negative capped)))))
+      (Outcome-weaker p bytes above false ((front ++ t.token.piece ∷ []) ++ sign.token.piece ∷ []) second.rest (IsNamed names (signed negative capped) (after l (suc k) false)) (λ b to qs u. IsQuantityAt p bytes names negative l k b to ((t.token.piece ∷ []) ++ ((sign.token.piece ∷ []) ++ qs)) u) _
+      (λ b to qs u m. product_means t.token.piece sign.token.piece b to qs u small is isy m)
+      (subst (λ (x : Lexeme). Outcome p bytes above false ((front ++ t.token.piece ∷ []) ++ sign.token.piece ∷ []) second.rest (IsNamed names (signed negative capped) (after l (suc k) false)) (variable_of bytes names x (signed negative capped)))
+      (sym named.shows ∙ ap (λ (x : Lexeme). lexeme_at p bytes x.to) (sym sign.shows))
+      (variable_out p bytes above ((front ++ t.token.piece ∷ []) ++ sign.token.piece ∷ []) sign.token.to second.rest named (later_room above (front ++ t.token.piece ∷ []) sign.token.piece named.token.piece) (factor l (suc k)) (after l (suc k) false) second.place (λ x. refl) (other_factor l (suc k)) (λ r no. cc) (signed negative capped)))))
 
   pub number_out : AreTokens p bytes t.token.to t.more → Goal (number_at p bytes names negative (shown t.token) capped)
   unfolding number_at
   number_out more =
       let same = times-begins p bytes t.token.to t.more more in
       elim (is_times (lexeme_at p bytes t.token.to).class) as (λ b. is_times (lexeme_at p bytes t.token.to).class ≡ b → Goal (cond b
-        (cond (nat_lt (2 ^ 31) capped) (Err (fault_at NumberTooLarge t.token.from)) (variable_of bytes names (lexeme_at p bytes (lexeme_at p bytes t.token.to).to) (signed negative capped)))
-        (cond (nat_lt (2 ^ 40) capped) (Err (fault_at NumberTooLarge t.token.from)) (Ok (record { factor = signed negative capped; var = None }, t.token.to))))) [
-        true ↦ λ e. product_out e (same ∙ e) (nat_lt (2 ^ 31) capped) refl
+      (cond (nat_lt (2 ^ 31) capped) (Err (fault_at NumberTooLarge t.token.from)) (variable_of bytes names (lexeme_at p bytes (lexeme_at p bytes t.token.to).to) (signed negative capped)))
+      (cond (nat_lt (2 ^ 40) capped) (Err (fault_at NumberTooLarge t.token.from)) (Ok (record { factor = signed negative capped; var = None }, t.token.to))))) [
+        | true ↦ λ e. product_out e (same ∙ e) (nat_lt (2 ^ 31) capped) refl
         | false ↦ λ e. constant_out e (same ∙ e) (nat_lt (2 ^ 40) capped) refl
       ] refl
 
@@ -242,17 +253,17 @@ module _ (p : Bool) (bytes : List ℕ) (above : List PlainLine) (front : List Pi
   negated_out : (t : Token p bytes at ts) → IsRoom above front t.token.piece → t.token.piece ≡ minus → Outcome p bytes above false front ts Means (quantity_at p bytes (declared_names above) (not subtracted) (lexeme_at p bytes t.token.to))
   negated_out t room is =
       let first = Gets-one p bytes above false front at ts t (size l k)
-        (sign_passed above false front (item l k) (size l k) t.token.piece (pieces t.more) here room (ap (next (item l k)) is) (not_full l k few)
-          (λ m same. let no : minus ≡ number m = sym is ∙ same in cc)
-          (λ x same. let no : minus ≡ name x = sym is ∙ same in cc))
-        (At-next false front (item l k) (size l k) t.token.piece here room.vars (ap (next (item l k)) is))
-        (ap is_last is) in
+      (sign_passed above false front (item l k) (size l k) t.token.piece (pieces t.more) here room (ap (next (item l k)) is) (not_full l k few)
+      (λ m same. let no : minus ≡ number m = sym is ∙ same in cc)
+      (λ x same. let no : minus ≡ name x = sym is ∙ same in cc))
+      (At-next false front (item l k) (size l k) t.token.piece here room.vars (ap (next (item l k)) is))
+      (ap is_last is) in
       let second = token_of p bytes t.token.to first.rest first.there in
       Outcome-after p bytes above false front at ts Means t.token.to (size l k) (t.token.piece ∷ []) _ first
       (Outcome-weaker p bytes above false (front ++ t.token.piece ∷ []) first.rest (IsQuantityAt p bytes (declared_names above) (not subtracted) l k) (λ b to qs u. Means b to ((t.token.piece ∷ []) ++ qs) u) _
-        (λ b to qs u m. (record { negative = true; quantity = m.0 }, m.1, ap (λ (q : Piece). q ∷ qs) is ∙ ap (λ (rs : List Piece). minus ∷ rs) m.2, record { factor = m.3 ∙ minus_factor subtracted (quantity_size m.0); on = m.4; fits = m.5 }, m.6, m.7))
-        (subst (λ (x : Lexeme). Outcome p bytes above false (front ++ t.token.piece ∷ []) first.rest (IsQuantityAt p bytes (declared_names above) (not subtracted) l k) (quantity_at p bytes (declared_names above) (not subtracted) x)) (sym second.shows)
-          (quantity_out p bytes above (front ++ t.token.piece ∷ []) t.token.to first.rest second second.on (later_room above front t.token.piece second.token.piece) (size l k) l k first.place (λ r e. cc) (not subtracted) (λ n. refl) (λ x. refl) (λ q same f g. other_size l k q f g))))
+      (λ b to qs u m. (record { negative = true; quantity = m.0 }, m.1, ap (λ (q : Piece). q ∷ qs) is ∙ ap (λ (rs : List Piece). minus ∷ rs) m.2, record { factor = m.3 ∙ minus_factor subtracted (quantity_size m.0); on = m.4; fits = m.5 }, m.6, m.7))
+      (subst (λ (x : Lexeme). Outcome p bytes above false (front ++ t.token.piece ∷ []) first.rest (IsQuantityAt p bytes (declared_names above) (not subtracted) l k) (quantity_at p bytes (declared_names above) (not subtracted) x)) (sym second.shows)
+      (quantity_out p bytes above (front ++ t.token.piece ∷ []) t.token.to first.rest second second.on (later_room above front t.token.piece second.token.piece) (size l k) l k first.place (λ r e. cc) (not subtracted) (λ n. refl) (λ x. refl) (λ q same f g. other_size l k q f g))))
 
   plain_out : (t : Token p bytes at ts) → IsRoom above front t.token.piece → is_minus (class_of t.token.piece) ≡ false → Outcome p bytes above false front ts Means (quantity_at p bytes (declared_names above) subtracted (shown t.token))
   plain_out t room no_minus =

@@ -63,10 +63,10 @@ unfolding first_line
 first_line-below at [] m e = rw (let z : m ≡ 0 = omega arith in z) (sym (add-zero at))
 first_line-below at (b ∷ bs) m e =
     elim (is_feed b) as (λ f. m ≡ min (cond (not f) (1 + prefix_len is_in_line bs) 0 + 1) (length (b ∷ bs)) → first_line f (at + 1) bs ≡ first_line true (at + m) (drop m (b ∷ bs))) [
-      true ↦ λ h. rw (let one : m ≡ 1 = omega arith in one) refl
+      | true ↦ λ h. rw (let one : m ≡ 1 = omega arith in one) refl
       | false ↦ λ h.
-        let k : ℕ = min (prefix_len is_in_line bs + 1) (length bs) in
-        rw (let more : m ≡ suc k = omega arith in more) (first_line-below (at + 1) bs k refl ∙ ap (λ (p : ℕ). first_line true p (drop k bs)) (let q : (at + 1) + k ≡ at + suc k = omega arith in q))
+          let k : ℕ = min (prefix_len is_in_line bs + 1) (length bs) in
+          rw (let more : m ≡ suc k = omega arith in more) (first_line-below (at + 1) bs k refl ∙ ap (λ (p : ℕ). first_line true p (drop k bs)) (let q : (at + 1) + k ≡ at + suc k = omega arith in q))
     ] e
 
 pub first_line-skipped : (at : ℕ) (bs : List ℕ) → is_skipped bs ≡ true → first_line true at bs ≡ first_line false at bs

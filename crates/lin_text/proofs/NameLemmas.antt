@@ -19,7 +19,7 @@ all_fail : {X : Type 0} (p : X → Bool) (xs : List X) → length xs ≤ prefix_
 all_fail p [] le = refl
 all_fail {X} p (x ∷ xs) le =
     elim (p x) as (λ b. length (x ∷ xs) ≤ cond (not b) (1 + prefix_len (λ y. not (p y)) xs) 0 → (b || list_any p xs) ≡ false) [
-      true ↦ λ h. absurd (omega arith)
+      | true ↦ λ h. absurd (omega arith)
       | false ↦ λ h. all_fail p xs (omega arith)
     ] le
 

@@ -24,9 +24,9 @@ all_in_prefix : (p : ℕ → Bool) (xs : List ℕ) (k : ℕ) (d : ℕ) → k < l
 all_in_prefix p [] k d lt = absurd (omega arith)
 all_in_prefix p (x ∷ xs) k d lt =
     elim (p x) as (λ b. p x ≡ b → k < length (take (cond b (1 + prefix_len p xs) 0) (x ∷ xs)) → IsTrue (p (get_or (take (cond b (1 + prefix_len p xs) 0) (x ∷ xs)) k d))) [
-      true ↦ λ e h.
-        let s : 1 + prefix_len p xs ≡ suc (prefix_len p xs) = omega arith in
-        subst (λ (n : ℕ). IsTrue (p (get_or (take n (x ∷ xs)) k d))) (sym s) (place_more p x (take (prefix_len p xs) xs) k d e (all_in_prefix p xs) (subst (λ (n : ℕ). k < length (take n (x ∷ xs))) s h))
+      | true ↦ λ e h.
+          let s : 1 + prefix_len p xs ≡ suc (prefix_len p xs) = omega arith in
+          subst (λ (n : ℕ). IsTrue (p (get_or (take n (x ∷ xs)) k d))) (sym s) (place_more p x (take (prefix_len p xs) xs) k d e (all_in_prefix p xs) (subst (λ (n : ℕ). k < length (take n (x ∷ xs))) s h))
       | false ↦ λ e h. absurd (omega arith)
     ] refl lt
 
@@ -87,7 +87,7 @@ unfolding Goal piece_of token_here
 here p bytes from [] e h = absurd (cc)
 here p bytes from (b ∷ bs) e h =
     elim (is_feed b) as (λ f. Goal p bytes (cond f (nothing_at kinds.LineEnd from) (token_of (kind_of b (token_length (b ∷ bs))) from (token_length (b ∷ bs))))) [
-      true ↦ λ h. absurd (cc)
+      | true ↦ λ h. absurd (cc)
       | false ↦ by_kind p bytes from b bs (token_length (b ∷ bs)) e refl (is_name_start b) refl (nat_lt 64 (token_length (b ∷ bs))) refl (is_digit b) (nat_eq (token_length (b ∷ bs)) 0)
     ] h
 

@@ -17,9 +17,10 @@ Passes above front (q ∷ used) rest = NoFault above front q (used ++ rest) × P
 
 pub Passes-append : (above : List PlainLine) (front xs ys rest : List Piece) → Passes above front xs (ys ++ rest) → Passes above (front ++ xs) ys rest → Passes above front (xs ++ ys) rest
 Passes-append above front [] ys rest h k = subst (λ (f : List Piece). Passes above f ys rest) (append-nil front) k
-Passes-append above front (x ∷ xs) ys rest h k =
-    (subst (λ (r : List Piece). NoFault above front x r) (sym (append_assoc xs ys rest)) h.0,
-     Passes-append above (front ++ x ∷ []) xs ys rest h.1 (subst (λ (f : List Piece). Passes above f ys rest) (sym (append_assoc front (x ∷ []) xs)) k))
+Passes-append above front (x ∷ xs) ys rest h k = (
+  subst (λ (r : List Piece). NoFault above front x r) (sym (append_assoc xs ys rest)) h.0,
+  Passes-append above (front ++ x ∷ []) xs ys rest h.1 (subst (λ (f : List Piece). Passes above f ys rest) (sym (append_assoc front (x ∷ []) xs)) k),
+)
 
 -- the first token
 pub record Token (p : Bool) (bytes : List ℕ) (at : ℕ) (ts : List PlainToken) : Type 0 where
@@ -107,8 +108,8 @@ module _ (p : Bool) (bytes : List ℕ) (above : List PlainLine) (v : Bool) (fron
         split = g.split ∙ ap (λ (r : List PlainToken). g.used ++ r) h.split ∙ sym (append_assoc g.used h.used h.rest);
         are = all ∙ ap (λ (r : List Piece). r ++ pieces h.used) g.are ∙ ap (λ (r : List Piece). ps ++ r) h.are;
         passes =
-          subst (λ (r : List Piece). Passes above front r (pieces h.rest)) (sym all)
-          (Passes-append above front (pieces g.used) (pieces h.used) (pieces h.rest)
+            subst (λ (r : List Piece). Passes above front r (pieces h.rest)) (sym all)
+            (Passes-append above front (pieces g.used) (pieces h.used) (pieces h.rest)
             (subst (λ (r : List Piece). Passes above front (pieces g.used) r) rest g.passes)
             (subst (λ (f : List Piece). Passes above (front ++ f) (pieces h.used) (pieces h.rest)) (sym g.are) h.passes));
         there = h.there;
@@ -126,14 +127,14 @@ module _ (p : Bool) (bytes : List ℕ) (above : List PlainLine) (v : Bool) (fron
         split = g.split ∙ ap (λ (r : List PlainToken). g.used ++ r) h.split ∙ sym (append_assoc g.used h.used (h.token ∷ h.after));
         at = h.at;
         passes =
-          subst (λ (r : List Piece). Passes above front r (h.token.piece ∷ pieces h.after)) (sym all)
-          (Passes-append above front (pieces g.used) (pieces h.used) (h.token.piece ∷ pieces h.after)
+            subst (λ (r : List Piece). Passes above front r (h.token.piece ∷ pieces h.after)) (sym all)
+            (Passes-append above front (pieces g.used) (pieces h.used) (h.token.piece ∷ pieces h.after)
             (subst (λ (r : List Piece). Passes above front (pieces g.used) r) rest g.passes)
             (subst (λ (f : List Piece). Passes above (front ++ f) (pieces h.used) (h.token.piece ∷ pieces h.after)) (sym g.are) h.passes));
         first =
-          subst (λ (r : List Piece). FirstStands above r h.token.piece (pieces h.after) f.kind)
-          (append_assoc front ps (pieces h.used) ∙ ap (λ (r : List Piece). front ++ r) (ap (λ (r : List Piece). r ++ pieces h.used) (sym g.are) ∙ sym all))
-          h.first;
+            subst (λ (r : List Piece). FirstStands above r h.token.piece (pieces h.after) f.kind)
+            (append_assoc front ps (pieces h.used) ∙ ap (λ (r : List Piece). front ++ r) (ap (λ (r : List Piece). r ++ pieces h.used) (sym g.are) ∙ sym all))
+            h.first;
       }
 
 -- what was read means M of its tokens and of the place behind them; else it is the first fault

@@ -69,22 +69,24 @@ At-var = record { step = λ q _. run-one var_name q; shape = refl; kind = refl }
 full-place : (front : List Piece) → EndsInFullSide front → (l : Bool) × (run start front ≡ Some (item l 64))
 full-place front full =
     elim full.starts [
-      inl none ↦
-        let r = run-side true full.side (joint full.subtracted ∷ []) in
-        (true,
-         ap (run start) (full.written ∙ ap (λ (b : List Piece). b ++ side_pieces full.side ++ joint full.subtracted ∷ []) none)
-         ∙ start-side full.side (joint full.subtracted ∷ [])
-         ∙ r.1 ∙ run-joint true (item_count full.side) r.0 full.subtracted []
-         ∙ ap (λ (n : ℕ). Some (item true n)) full.full)
+      | inl none ↦
+          let r = run-side true full.side (joint full.subtracted ∷ []) in (
+            true,
+            ap (run start) (full.written ∙ ap (λ (b : List Piece). b ++ side_pieces full.side ++ joint full.subtracted ∷ []) none)
+                ∙ start-side full.side (joint full.subtracted ∷ [])
+                ∙ r.1 ∙ run-joint true (item_count full.side) r.0 full.subtracted []
+                ∙ ap (λ (n : ℕ). Some (item true n)) full.full,
+          )
       | inr some ↦
-        let rest : List Piece = side_pieces full.side ++ joint full.subtracted ∷ [] in
-        let l = run-side true some.0 (compare some.1 ∷ rest) in
-        let r = run-side false full.side (joint full.subtracted ∷ []) in
-        (false,
-         ap (run start) (full.written ∙ ap (λ (b : List Piece). b ++ side_pieces full.side ++ joint full.subtracted ∷ []) some.2 ∙ append_assoc (side_pieces some.0 ++ compare some.1 ∷ []) (side_pieces full.side) (joint full.subtracted ∷ []) ∙ append_assoc (side_pieces some.0) (compare some.1 ∷ []) rest)
-         ∙ start-side some.0 (compare some.1 ∷ rest)
-         ∙ l.1 ∙ r.1 ∙ run-joint false (item_count full.side) r.0 full.subtracted []
-         ∙ ap (λ (n : ℕ). Some (item false n)) full.full)
+          let rest : List Piece = side_pieces full.side ++ joint full.subtracted ∷ [] in
+          let l = run-side true some.0 (compare some.1 ∷ rest) in
+          let r = run-side false full.side (joint full.subtracted ∷ []) in (
+            false,
+            ap (run start) (full.written ∙ ap (λ (b : List Piece). b ++ side_pieces full.side ++ joint full.subtracted ∷ []) some.2 ∙ append_assoc (side_pieces some.0 ++ compare some.1 ∷ []) (side_pieces full.side) (joint full.subtracted ∷ []) ∙ append_assoc (side_pieces some.0) (compare some.1 ∷ []) rest)
+                ∙ start-side some.0 (compare some.1 ∷ rest)
+                ∙ l.1 ∙ r.1 ∙ run-joint false (item_count full.side) r.0 full.subtracted []
+                ∙ ap (λ (n : ℕ). Some (item false n)) full.full,
+          )
     ]
 
 -- behind a full side the line goes on as before an item
@@ -117,7 +119,7 @@ pub record IsRoom (above : List PlainLine) (front : List Piece) (q : Piece) : Ty
 pub refused : (above : List PlainLine) (v : Bool) (front : List Piece) (s : Place) (q : Piece) (rest : List Piece) → At v front s → IsRoom above front q → next s q ≡ None → FirstStands above front q rest (refusal_kind (class_of q))
 refused above v front s q rest at room none =
     elim q as (λ p. q ≡ p → FirstStands above front q rest (refusal_kind (class_of p))) [
-      bad ↦ λ is. record { stands = is; least = before-token is }
+      | bad ↦ λ is. record { stands = is; least = before-token is }
       | var ↦ λ is. syntax (λ e. cc)
       | word w ↦ λ is. syntax (λ e. cc)
       | name x ↦ λ is. syntax (λ e. cc)
@@ -129,34 +131,38 @@ refused above v front s q rest at room none =
       | line_end ↦ λ is. syntax (λ e. cc)
     ] refl
   where
-  no_terms : EndsInFullSide front → IsTrue (begins_item q) → ⊥
-  no_terms full b = let f = full-next v front s q at full room.vars in item-begins f.0 64 q (sym f.1 ∙ none) b
-  no_line : ¬ BeginsLine (front ++ q ∷ [])
-  no_line b = let r = run-BeginsLine (front ++ q ∷ []) b in let e : None ≡ Some r.0 = sym none ∙ sym (at.step q room.vars) ∙ r.1 in cc
-  before-token : q ≡ bad → (k : TextKind) → Stands above front q rest k → rank Token ≤ rank k
-  before-token is TooManyVars h = absurd (room.vars h.0 h.1)
-  before-token is TooManyAtoms h = absurd (room.atoms h.0 h.1 h.2)
-  before-token is TooManyTerms h = absurd (no_terms h.0 h.1)
-  before-token is Token h = lit≤ tt
-  before-token is Syntax h = lit≤ tt
-  before-token is NumberTooLarge h = lit≤ tt
-  before-token is UnknownName h = lit≤ tt
-  before-token is NameTwice h = lit≤ tt
-  before-token is EmptyRange h = lit≤ tt
-  before-token is NoMemory h = lit≤ tt
-  before-syntax : (q ≡ bad → ⊥) → (k : TextKind) → Stands above front q rest k → rank Syntax ≤ rank k
-  before-syntax not_bad TooManyVars h = absurd (room.vars h.0 h.1)
-  before-syntax not_bad TooManyAtoms h = absurd (room.atoms h.0 h.1 h.2)
-  before-syntax not_bad TooManyTerms h = absurd (no_terms h.0 h.1)
-  before-syntax not_bad Token h = absurd (not_bad h)
-  before-syntax not_bad Syntax h = lit≤ tt
-  before-syntax not_bad NumberTooLarge h = lit≤ tt
-  before-syntax not_bad UnknownName h = lit≤ tt
-  before-syntax not_bad NameTwice h = lit≤ tt
-  before-syntax not_bad EmptyRange h = lit≤ tt
-  before-syntax not_bad NoMemory h = lit≤ tt
-  syntax : (q ≡ bad → ⊥) → FirstStands above front q rest Syntax
-  syntax not_bad = record { stands = no_line; least = before-syntax not_bad }
+    no_terms : EndsInFullSide front → IsTrue (begins_item q) → ⊥
+    no_terms full b = let f = full-next v front s q at full room.vars in item-begins f.0 64 q (sym f.1 ∙ none) b
+
+    no_line : ¬ BeginsLine (front ++ q ∷ [])
+    no_line b = let r = run-BeginsLine (front ++ q ∷ []) b in let e : None ≡ Some r.0 = sym none ∙ sym (at.step q room.vars) ∙ r.1 in cc
+
+    before-token : q ≡ bad → (k : TextKind) → Stands above front q rest k → rank Token ≤ rank k
+    before-token is TooManyVars h = absurd (room.vars h.0 h.1)
+    before-token is TooManyAtoms h = absurd (room.atoms h.0 h.1 h.2)
+    before-token is TooManyTerms h = absurd (no_terms h.0 h.1)
+    before-token is Token h = lit≤ tt
+    before-token is Syntax h = lit≤ tt
+    before-token is NumberTooLarge h = lit≤ tt
+    before-token is UnknownName h = lit≤ tt
+    before-token is NameTwice h = lit≤ tt
+    before-token is EmptyRange h = lit≤ tt
+    before-token is NoMemory h = lit≤ tt
+
+    before-syntax : (q ≡ bad → ⊥) → (k : TextKind) → Stands above front q rest k → rank Syntax ≤ rank k
+    before-syntax not_bad TooManyVars h = absurd (room.vars h.0 h.1)
+    before-syntax not_bad TooManyAtoms h = absurd (room.atoms h.0 h.1 h.2)
+    before-syntax not_bad TooManyTerms h = absurd (no_terms h.0 h.1)
+    before-syntax not_bad Token h = absurd (not_bad h)
+    before-syntax not_bad Syntax h = lit≤ tt
+    before-syntax not_bad NumberTooLarge h = lit≤ tt
+    before-syntax not_bad UnknownName h = lit≤ tt
+    before-syntax not_bad NameTwice h = lit≤ tt
+    before-syntax not_bad EmptyRange h = lit≤ tt
+    before-syntax not_bad NoMemory h = lit≤ tt
+
+    syntax : (q ≡ bad → ⊥) → FirstStands above front q rest Syntax
+    syntax not_bad = record { stands = no_line; least = before-syntax not_bad }
 
 no_bad_after : (l : Bool) (n : ℕ) (bare : Bool) (t : Place) → after_next l n bare bad ≡ Some t → ⊥
 no_bad_after l n true t e = cc

@@ -73,11 +73,15 @@ is_constant _ = false
 run-item : (l : Bool) (n : ℕ) (i : Item) (ps : List Piece) → (bare : Bool) × (run (item l n) (item_pieces i ++ ps) ≡ run (after l (suc n) bare) ps)
 run-item l n i ps =
     elim i.negative as (λ m. (bare : Bool) × (run (item l n) ((sign m ++ quantity_pieces i.quantity) ++ ps) ≡ run (after l (suc n) bare) ps)) [
-      true ↦ elim i.quantity as (λ q. (bare : Bool) × (run (item l n) ((sign true ++ quantity_pieces q) ++ ps) ≡ run (after l (suc n) bare) ps)) [
-        constant k ↦ (true, refl) | multiple k x ↦ (false, refl) | single x ↦ (false, refl)
+      | true ↦ elim i.quantity as (λ q. (bare : Bool) × (run (item l n) ((sign true ++ quantity_pieces q) ++ ps) ≡ run (after l (suc n) bare) ps)) [
+        | constant k ↦ (true, refl)
+        | multiple k x ↦ (false, refl)
+        | single x ↦ (false, refl)
       ]
       | false ↦ elim i.quantity as (λ q. (bare : Bool) × (run (item l n) ((sign false ++ quantity_pieces q) ++ ps) ≡ run (after l (suc n) bare) ps)) [
-        constant k ↦ (true, refl) | multiple k x ↦ (false, refl) | single x ↦ (false, refl)
+        | constant k ↦ (true, refl)
+        | multiple k x ↦ (false, refl)
+        | single x ↦ (false, refl)
       ]
     ]
 
@@ -90,11 +94,12 @@ run-later l n bare [] ps = (bare, rw (let same : n + 0 ≡ n = omega arith in sa
 run-later l n bare (j ∷ js) ps =
     let first = run-item l n j.item (flat_map joined_pieces js ++ ps) in
     let rest = run-later l (suc n) first.0 js ps in
-    let counts : suc n + length js ≡ n + suc (length js) = omega arith in
-    (rest.0,
-     ap (run (after l n bare)) (append_assoc (joined_pieces j) (flat_map joined_pieces js) ps)
-     ∙ run-joint l n bare j.subtracted (item_pieces j.item ++ (flat_map joined_pieces js ++ ps))
-     ∙ first.1 ∙ rest.1 ∙ ap (λ (m : ℕ). run (after l m rest.0) ps) counts)
+    let counts : suc n + length js ≡ n + suc (length js) = omega arith in (
+      rest.0,
+      ap (run (after l n bare)) (append_assoc (joined_pieces j) (flat_map joined_pieces js) ps)
+          ∙ run-joint l n bare j.subtracted (item_pieces j.item ++ (flat_map joined_pieces js ++ ps))
+          ∙ first.1 ∙ rest.1 ∙ ap (λ (m : ℕ). run (after l m rest.0) ps) counts,
+    )
 
 pub run-side : (l : Bool) (s : Side) (ps : List Piece) → (o : Bool) × (run (item l 0) (side_pieces s ++ ps) ≡ run (after l (item_count s) o) ps)
 unfolding side_pieces
@@ -106,9 +111,11 @@ run-side l s ps =
 start-item : (i : Item) (ps : List Piece) → run start (item_pieces i ++ ps) ≡ run (item true 0) (item_pieces i ++ ps)
 start-item i ps =
     elim i.negative as (λ m. run start ((sign m ++ quantity_pieces i.quantity) ++ ps) ≡ run (item true 0) ((sign m ++ quantity_pieces i.quantity) ++ ps)) [
-      true ↦ refl
+      | true ↦ refl
       | false ↦ elim i.quantity as (λ q. run start ((sign false ++ quantity_pieces q) ++ ps) ≡ run (item true 0) ((sign false ++ quantity_pieces q) ++ ps)) [
-        constant k ↦ refl | multiple k x ↦ refl | single x ↦ refl
+        | constant k ↦ refl
+        | multiple k x ↦ refl
+        | single x ↦ refl
       ]
     ]
 
@@ -129,7 +136,7 @@ pub run-line : (line : Line) → run start (line_pieces line) ≡ Some done
 run-line (declaration x lo hi) = run-integers x lo.negative hi.negative lo.size hi.size
 run-line (comparison left c right) =
     let whole : (side_pieces left ++ compare c ∷ side_pieces right) ++ line_end ∷ [] ≡ side_pieces left ++ (compare c ∷ (side_pieces right ++ line_end ∷ [])) =
-      append_assoc (side_pieces left) (compare c ∷ side_pieces right) (line_end ∷ []) in
+    append_assoc (side_pieces left) (compare c ∷ side_pieces right) (line_end ∷ []) in
     let l = run-side true left (compare c ∷ (side_pieces right ++ line_end ∷ [])) in
     let r = run-side false right (line_end ∷ []) in
     ap (run start) whole ∙ start-side left _ ∙ l.1 ∙ r.1
@@ -139,7 +146,7 @@ pub run-front : (s t : Place) (ps qs : List Piece) → run s (ps ++ qs) ≡ Some
 run-front s t [] qs e = (s, refl, e)
 run-front s t (p ∷ ps) qs e =
     elim (next s p) as (λ o. option_and_then (λ u. run u (ps ++ qs)) o ≡ Some t → (u : Place) × (option_and_then (λ v. run v ps) o ≡ Some u) × (run u qs ≡ Some t)) [
-      None ↦ λ h. absurd (cc)
+      | None ↦ λ h. absurd (cc)
       | Some v ↦ λ h. run-front v t ps qs h
     ] e
 
@@ -153,6 +160,6 @@ pub run-append : (s : Place) (ps qs : List Piece) (u : Place) → run s ps ≡ S
 run-append s [] qs u e = let same : s ≡ u = cc in ap (λ (v : Place). run v qs) same
 run-append s (p ∷ ps) qs u e =
     elim (next s p) as (λ o. option_and_then (λ v. run v ps) o ≡ Some u → option_and_then (λ v. run v (ps ++ qs)) o ≡ run u qs) [
-      None ↦ λ h. absurd (cc)
+      | None ↦ λ h. absurd (cc)
       | Some v ↦ λ h. run-append v ps qs u h
     ] e

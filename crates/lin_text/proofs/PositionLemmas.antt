@@ -13,23 +13,23 @@ found_at : (q : List ℕ → Bool) (xs : List (List ℕ)) → prefix_len (λ x. 
 found_at q [] lt = absurd (omega arith)
 found_at q (x ∷ xs) lt =
     elim (q x) as (λ b. q x ≡ b → cond (not b) (1 + prefix_len (λ y. not (q y)) xs) 0 < length (x ∷ xs) → (y : List ℕ) × (slice_get (x ∷ xs) (cond (not b) (1 + prefix_len (λ y. not (q y)) xs) 0) ≡ Some y) × (q y ≡ true)) [
-      true ↦ λ e h. (x, refl, e)
+      | true ↦ λ e h. (x, refl, e)
       | false ↦ λ e h.
-        let there = found_at q xs (omega arith) in
-        (there.0, ap (slice_get (x ∷ xs)) (let s : 1 + prefix_len (λ y. not (q y)) xs ≡ suc (prefix_len (λ y. not (q y)) xs) = omega arith in s) ∙ there.1, there.2)
+          let there = found_at q xs (omega arith) in
+          (there.0, ap (slice_get (x ∷ xs)) (let s : 1 + prefix_len (λ y. not (q y)) xs ≡ suc (prefix_len (λ y. not (q y)) xs) = omega arith in s) ∙ there.1, there.2)
     ] refl lt
 
 none_pass : (q : List ℕ → Bool) (xs : List (List ℕ)) → length xs ≤ prefix_len (λ x. not (q x)) xs → (k : ℕ) (d : List ℕ) → k < length xs → q (get_or xs k d) ≡ false
 none_pass q [] le k d lt = absurd (omega arith)
 none_pass q (x ∷ xs) le k d lt =
     elim (q x) as (λ b. q x ≡ b → length (x ∷ xs) ≤ cond (not b) (1 + prefix_len (λ y. not (q y)) xs) 0 → q (get_or (x ∷ xs) k d) ≡ false) [
-      true ↦ λ e h. absurd (omega arith)
+      | true ↦ λ e h. absurd (omega arith)
       | false ↦ λ e h. none_pass_at q x xs k d e (none_pass q xs (omega arith)) lt
     ] refl le
   where
-  none_pass_at : (q : List ℕ → Bool) (x : List ℕ) (xs : List (List ℕ)) (k : ℕ) (d : List ℕ) → q x ≡ false → ((j : ℕ) (e : List ℕ) → j < length xs → q (get_or xs j e) ≡ false) → k < length (x ∷ xs) → q (get_or (x ∷ xs) k d) ≡ false
-  none_pass_at q x xs zero d e below lt = e
-  none_pass_at q x xs (suc j) d e below lt = below j d (omega arith)
+    none_pass_at : (q : List ℕ → Bool) (x : List ℕ) (xs : List (List ℕ)) (k : ℕ) (d : List ℕ) → q x ≡ false → ((j : ℕ) (e : List ℕ) → j < length xs → q (get_or xs j e) ≡ false) → k < length (x ∷ xs) → q (get_or (x ∷ xs) k d) ≡ false
+    none_pass_at q x xs zero d e below lt = e
+    none_pass_at q x xs (suc j) d e below lt = below j d (omega arith)
 
 is_found : (a b k : ℕ) → cond (nat_lt a b) (Some a) None ≡ Some k → (a < b) × (a ≡ k)
 is_found a b k e = elim (nat_lt a b) as (λ t. nat_lt a b ≡ t → cond t (Some a) None ≡ Some k → (a < b) × (a ≡ k)) [ true ↦ λ l h. (ltb-true a b l, cc) | false ↦ λ l h. absurd (cc) ] refl e

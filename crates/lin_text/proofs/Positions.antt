@@ -19,7 +19,7 @@ prefix_len-mono : (p q : ℕ → Bool) → ((b : ℕ) → p b ≡ true → q b �
 prefix_len-mono p q wider [] = omega arith
 prefix_len-mono p q wider (x ∷ xs) =
     elim (p x) as (λ b. p x ≡ b → cond b (1 + prefix_len p xs) 0 ≤ prefix_len q (x ∷ xs)) [
-      true ↦ λ e. subst (λ (c : Bool). 1 + prefix_len p xs ≤ cond c (1 + prefix_len q xs) 0) (sym (wider x e)) (omega (arith, prefix_len-mono p q wider xs))
+      | true ↦ λ e. subst (λ (c : Bool). 1 + prefix_len p xs ≤ cond c (1 + prefix_len q xs) 0) (sym (wider x e)) (omega (arith, prefix_len-mono p q wider xs))
       | false ↦ λ e. omega arith
     ] refl
 
@@ -28,7 +28,7 @@ prefix_len-drop p xs zero le = omega arith
 prefix_len-drop p [] (suc k) le = absurd (omega arith)
 prefix_len-drop p (x ∷ xs) (suc k) le =
     elim (p x) as (λ b. suc k ≤ cond b (1 + prefix_len p xs) 0 → suc k + prefix_len p (drop k xs) ≡ cond b (1 + prefix_len p xs) 0) [
-      true ↦ λ h. omega (arith, prefix_len-drop p xs k (omega arith))
+      | true ↦ λ h. omega (arith, prefix_len-drop p xs k (omega arith))
       | false ↦ λ h. absurd (omega arith)
     ] le
 
@@ -41,7 +41,7 @@ feed_is b e = grind (arith, nat_tests)
 by_feed : (p : ℕ → Bool) → p 10 ≡ false → (b : ℕ) → p b ≡ true → is_in_line b ≡ true
 by_feed p none b e =
     elim (is_feed b) as (λ f. is_feed b ≡ f → not f ≡ true) [
-      true ↦ λ f. let same : true ≡ false = sym e ∙ ap p (feed_is b f) ∙ none in absurd (cc)
+      | true ↦ λ f. let same : true ≡ false = sym e ∙ ap p (feed_is b f) ∙ none in absurd (cc)
       | false ↦ λ f. refl
     ] refl
 
@@ -49,23 +49,23 @@ symbol-in : (b : ℕ) (bs : List ℕ) → is_feed b ≡ false → symbol_length 
 symbol-in b bs e =
     subst (λ (c : Bool). symbol_length b bs ≤ cond c (1 + prefix_len is_in_line bs) 0) (sym (in_line_not b e)) (by_pair (begins_pair b) bs)
   where
-  by_pair : (pair : Bool) (cs : List ℕ) → cond (pair && begins_equal cs) 2 (cond (is_symbol b) 1 0) ≤ 1 + prefix_len is_in_line cs
-  by_pair false cs = elim (is_symbol b) as (λ s. cond s 1 0 ≤ 1 + prefix_len is_in_line cs) [ true ↦ omega arith | false ↦ omega arith ]
-  by_pair true [] = elim (is_symbol b) as (λ s. cond s 1 0 ≤ 1 + prefix_len is_in_line []) [ true ↦ omega arith | false ↦ omega arith ]
-  by_pair true (c ∷ cs) =
-      elim (nat_eq c 61) as (λ s. nat_eq c 61 ≡ s → cond s 2 (cond (is_symbol b) 1 0) ≤ 1 + prefix_len is_in_line (c ∷ cs)) [
-        true ↦ λ s. subst (λ (d : Bool). 2 ≤ 1 + cond d (1 + prefix_len is_in_line cs) 0) (sym (by_feed (λ d. nat_eq d 61) refl c s)) (omega arith)
-        | false ↦ λ s. elim (is_symbol b) as (λ s'. cond s' 1 0 ≤ 1 + prefix_len is_in_line (c ∷ cs)) [ true ↦ omega arith | false ↦ omega arith ]
-      ] refl
+    by_pair : (pair : Bool) (cs : List ℕ) → cond (pair && begins_equal cs) 2 (cond (is_symbol b) 1 0) ≤ 1 + prefix_len is_in_line cs
+    by_pair false cs = elim (is_symbol b) as (λ s. cond s 1 0 ≤ 1 + prefix_len is_in_line cs) [ true ↦ omega arith | false ↦ omega arith ]
+    by_pair true [] = elim (is_symbol b) as (λ s. cond s 1 0 ≤ 1 + prefix_len is_in_line []) [ true ↦ omega arith | false ↦ omega arith ]
+    by_pair true (c ∷ cs) =
+        elim (nat_eq c 61) as (λ s. nat_eq c 61 ≡ s → cond s 2 (cond (is_symbol b) 1 0) ≤ 1 + prefix_len is_in_line (c ∷ cs)) [
+          | true ↦ λ s. subst (λ (d : Bool). 2 ≤ 1 + cond d (1 + prefix_len is_in_line cs) 0) (sym (by_feed (λ d. nat_eq d 61) refl c s)) (omega arith)
+          | false ↦ λ s. elim (is_symbol b) as (λ s'. cond s' 1 0 ≤ 1 + prefix_len is_in_line (c ∷ cs)) [ true ↦ omega arith | false ↦ omega arith ]
+        ] refl
 
 -- a token ends within its line
 token_length-in : (b : ℕ) (bs : List ℕ) → is_feed b ≡ false → token_length (b ∷ bs) ≤ prefix_len is_in_line (b ∷ bs)
 unfolding token_length
 token_length-in b bs e =
     elim (is_name_start b) as (λ s. cond s (1 + prefix_len is_name_byte bs) (cond (is_digit b) (1 + prefix_len is_digit bs) (symbol_length b bs)) ≤ prefix_len is_in_line (b ∷ bs)) [
-      true ↦ subst (λ (c : Bool). 1 + prefix_len is_name_byte bs ≤ cond c (1 + prefix_len is_in_line bs) 0) (sym (in_line_not b e)) (omega (arith, prefix_len-mono is_name_byte is_in_line (by_feed is_name_byte refl) bs))
+      | true ↦ subst (λ (c : Bool). 1 + prefix_len is_name_byte bs ≤ cond c (1 + prefix_len is_in_line bs) 0) (sym (in_line_not b e)) (omega (arith, prefix_len-mono is_name_byte is_in_line (by_feed is_name_byte refl) bs))
       | false ↦ elim (is_digit b) as (λ d. cond d (1 + prefix_len is_digit bs) (symbol_length b bs) ≤ prefix_len is_in_line (b ∷ bs)) [
-        true ↦ subst (λ (c : Bool). 1 + prefix_len is_digit bs ≤ cond c (1 + prefix_len is_in_line bs) 0) (sym (in_line_not b e)) (omega (arith, prefix_len-mono is_digit is_in_line (by_feed is_digit refl) bs))
+        | true ↦ subst (λ (c : Bool). 1 + prefix_len is_digit bs ≤ cond c (1 + prefix_len is_in_line bs) 0) (sym (in_line_not b e)) (omega (arith, prefix_len-mono is_digit is_in_line (by_feed is_digit refl) bs))
         | false ↦ symbol-in b bs e
       ]
     ]
@@ -81,9 +81,9 @@ some_long : (b : ℕ) (bs : List ℕ) → token_length (b ∷ bs) ≡ 0 → kind
 unfolding token_length
 some_long b bs e =
     elim (is_name_start b) as (λ s. cond s (1 + prefix_len is_name_byte bs) (cond (is_digit b) (1 + prefix_len is_digit bs) (symbol_length b bs)) ≡ 0 → (n : ℕ) → n ≡ 0 → cond s (cond (nat_lt 64 n) kinds.Bad kinds.Name) (cond (is_digit b) kinds.Number (cond (nat_eq n 0) kinds.Bad kinds.Symbol)) ≡ kinds.Bad) [
-      true ↦ λ h n z. absurd (omega arith)
+      | true ↦ λ h n z. absurd (omega arith)
       | false ↦ elim (is_digit b) as (λ d. cond d (1 + prefix_len is_digit bs) (symbol_length b bs) ≡ 0 → (n : ℕ) → n ≡ 0 → cond d kinds.Number (cond (nat_eq n 0) kinds.Bad kinds.Symbol) ≡ kinds.Bad) [
-        true ↦ λ h n z. absurd (omega arith)
+        | true ↦ λ h n z. absurd (omega arith)
         | false ↦ λ h n z. rw z refl
       ]
     ] e (token_length (b ∷ bs)) e
@@ -104,7 +104,7 @@ unfolding token_here
 token_here-within at [] = record { from = refl; order = omega arith; within = omega arith; some = λ b l. absurd (l refl) }
 token_here-within at (b ∷ bs) =
     elim (is_feed b) as (λ f. is_feed b ≡ f → IsWithin at (prefix_len is_in_line (b ∷ bs)) (cond f (nothing_at kinds.LineEnd at) (token_of (kind_of b (token_length (b ∷ bs))) at (token_length (b ∷ bs))))) [
-      true ↦ λ f. record { from = refl; order = omega arith; within = omega arith; some = λ b' l. absurd (l refl) }
+      | true ↦ λ f. record { from = refl; order = omega arith; within = omega arith; some = λ b' l. absurd (l refl) }
       | false ↦ λ f. token_of-within (kind_of b (token_length (b ∷ bs))) at (token_length (b ∷ bs)) (prefix_len is_in_line (b ∷ bs)) (token_length-in b bs f) (some_long b bs)
     ] refl
 
@@ -161,11 +161,11 @@ tokens_total (suc n) p bytes at le few =
     let t = first_token p bytes at in
     let ahead = first_token-ahead p bytes at in
     elim (is_last t.piece) as (λ b. is_last t.piece ≡ b → (ts : List PlainToken) × AreTokens p bytes at ts) [
-      true ↦ λ e. (t ∷ [], (refl, subst (λ (b : Bool). MatchBool b (◌≡◌ {A = List PlainToken} [] []) (AreTokens p bytes t.to [])) (sym e) refl))
+      | true ↦ λ e. (t ∷ [], (refl, subst (λ (b : Bool). MatchBool b (◌≡◌ {A = List PlainToken} [] []) (AreTokens p bytes t.to [])) (sym e) refl))
       | false ↦ λ e.
-        let further : t.from < t.to = ahead.some e in
-        let rest = tokens_total n p bytes t.to (omega (arith, ahead.within, line_end-within bytes at le)) (omega (arith, ahead.ahead, further, ahead.within, line_end-within bytes at le)) in
-        (t ∷ rest.0, (refl, subst (λ (b : Bool). MatchBool b (rest.0 ≡ []) (AreTokens p bytes t.to rest.0)) (sym e) rest.1))
+          let further : t.from < t.to = ahead.some e in
+          let rest = tokens_total n p bytes t.to (omega (arith, ahead.within, line_end-within bytes at le)) (omega (arith, ahead.ahead, further, ahead.within, line_end-within bytes at le)) in
+          (t ∷ rest.0, (refl, subst (λ (b : Bool). MatchBool b (rest.0 ≡ []) (AreTokens p bytes t.to rest.0)) (sym e) rest.1))
     ] refl
 
 first_line-bounds : (begins : Bool) (at : ℕ) (bs : List ℕ) → (at ≤ first_line begins at bs) × (first_line begins at bs ≤ at + length bs)
@@ -174,7 +174,7 @@ first_line-bounds begins at [] = (omega arith, omega arith)
 first_line-bounds begins at (b ∷ bs) =
     let more = first_line-bounds (is_feed b) (at + 1) bs in
     elim (begins && not (is_skipped (b ∷ bs))) as (λ c. (at ≤ cond c at (first_line (is_feed b) (at + 1) bs)) × (cond c at (first_line (is_feed b) (at + 1) bs) ≤ at + length (b ∷ bs))) [
-      true ↦ (omega arith, omega arith)
+      | true ↦ (omega arith, omega arith)
       | false ↦ (omega (arith, more.0), omega (arith, more.1))
     ]
 
@@ -186,11 +186,11 @@ lines_total (suc n) p bytes at le few =
     let bounds = first_line-bounds true at (drop at bytes) in
     let within : s ≤ length bytes = omega (arith, bounds.1, length-drop at bytes) in
     elim (nat_lt s (length bytes)) as (λ b. nat_lt s (length bytes) ≡ b → (lines : List PlainLine) × AreLines p bytes at lines) [
-      true ↦ λ e.
-        let lt : s < length bytes = ltb-true s (length bytes) e in
-        let ts = tokens_total (suc (length bytes)) p bytes s within (omega arith) in
-        let rest = lines_total n p bytes (line_below bytes s) (omega arith) (omega (arith, bounds.0)) in
-        (record { start = s; tokens = ts.0 } ∷ rest.0, (refl, lt, ts.1, rest.1))
+      | true ↦ λ e.
+          let lt : s < length bytes = ltb-true s (length bytes) e in
+          let ts = tokens_total (suc (length bytes)) p bytes s within (omega arith) in
+          let rest = lines_total n p bytes (line_below bytes s) (omega arith) (omega (arith, bounds.0)) in
+          (record { start = s; tokens = ts.0 } ∷ rest.0, (refl, lt, ts.1, rest.1))
       | false ↦ λ e. ([], (let ge : length bytes ≤ s = ltb-false s (length bytes) e in omega arith))
     ] refl
 
@@ -205,15 +205,15 @@ tokens-within p bytes at (t ∷ ts) (f ∷ front) after u are e =
     let ahead = subst (λ (w : PlainToken). IsAhead bytes at w) (sym are.0) (first_token-ahead p bytes at) in
     let rest : ts ≡ front ++ u ∷ after = cc in
     elim (is_last t.piece) as (λ b. MatchBool b (ts ≡ []) (AreTokens p bytes t.to ts) → (at ≤ u.from) × (u.from ≤ line_end bytes at)) [
-      true ↦ λ h. absurd (not_nil front u after (sym rest ∙ h))
+      | true ↦ λ h. absurd (not_nil front u after (sym rest ∙ h))
       | false ↦ λ h.
-        let more = tokens-within p bytes t.to ts front after u h rest in
-        (omega (arith, ahead.ahead, ahead.order, more.0), omega (arith, more.1, ahead.line))
+          let more = tokens-within p bytes t.to ts front after u h rest in
+          (omega (arith, ahead.ahead, ahead.order, more.0), omega (arith, more.1, ahead.line))
     ] are.1
   where
-  not_nil : (xs : List PlainToken) (x : PlainToken) (ys : List PlainToken) → xs ++ x ∷ ys ≡ [] → ⊥
-  not_nil [] x ys e = cc
-  not_nil (y ∷ xs) x ys e = cc
+    not_nil : (xs : List PlainToken) (x : PlainToken) (ys : List PlainToken) → xs ++ x ∷ ys ≡ [] → ⊥
+    not_nil [] x ys e = cc
+    not_nil (y ∷ xs) x ys e = cc
 
 -- of two tokens of a line the later one lies behind
 pub tokens-later : (p : Bool) (bytes : List ℕ) (at : ℕ) (ts front mid after : List PlainToken) (t u : PlainToken) → AreTokens p bytes at ts → ts ≡ front ++ t ∷ (mid ++ u ∷ after) → t.from < u.from
@@ -223,26 +223,26 @@ tokens-later p bytes at (w ∷ ts) [] mid after t u are e =
     let rest : ts ≡ mid ++ u ∷ after = cc in
     let ahead = subst (λ (v : PlainToken). IsAhead bytes at v) (sym are.0) (first_token-ahead p bytes at) in
     elim (is_last w.piece) as (λ b. is_last w.piece ≡ b → MatchBool b (ts ≡ []) (AreTokens p bytes w.to ts) → t.from < u.from) [
-      true ↦ λ l h. absurd (no_nil mid u after (sym rest ∙ h))
+      | true ↦ λ l h. absurd (no_nil mid u after (sym rest ∙ h))
       | false ↦ λ l h.
-        let more = tokens-within p bytes w.to ts mid after u h rest in
-        let lt : w.from < u.from = omega (arith, ahead.some l, more.0) in
-        subst (λ (v : PlainToken). v.from < u.from) same lt
+          let more = tokens-within p bytes w.to ts mid after u h rest in
+          let lt : w.from < u.from = omega (arith, ahead.some l, more.0) in
+          subst (λ (v : PlainToken). v.from < u.from) same lt
     ] refl are.1
   where
-  no_nil : (xs : List PlainToken) (x : PlainToken) (ys : List PlainToken) → xs ++ x ∷ ys ≡ [] → ⊥
-  no_nil [] x ys e = cc
-  no_nil (y ∷ xs) x ys e = cc
+    no_nil : (xs : List PlainToken) (x : PlainToken) (ys : List PlainToken) → xs ++ x ∷ ys ≡ [] → ⊥
+    no_nil [] x ys e = cc
+    no_nil (y ∷ xs) x ys e = cc
 tokens-later p bytes at (w ∷ ts) (f ∷ front) mid after t u are e =
     let rest : ts ≡ front ++ t ∷ (mid ++ u ∷ after) = cc in
     elim (is_last w.piece) as (λ b. MatchBool b (ts ≡ []) (AreTokens p bytes w.to ts) → t.from < u.from) [
-      true ↦ λ h. absurd (no_nil front t (mid ++ u ∷ after) (sym rest ∙ h))
+      | true ↦ λ h. absurd (no_nil front t (mid ++ u ∷ after) (sym rest ∙ h))
       | false ↦ λ h. tokens-later p bytes w.to ts front mid after t u h rest
     ] are.1
   where
-  no_nil : (xs : List PlainToken) (x : PlainToken) (ys : List PlainToken) → xs ++ x ∷ ys ≡ [] → ⊥
-  no_nil [] x ys e = cc
-  no_nil (y ∷ xs) x ys e = cc
+    no_nil : (xs : List PlainToken) (x : PlainToken) (ys : List PlainToken) → xs ++ x ∷ ys ≡ [] → ⊥
+    no_nil [] x ys e = cc
+    no_nil (y ∷ xs) x ys e = cc
 
 -- a line lies behind the place
 pub lines-behind : (p : Bool) (bytes : List ℕ) (at : ℕ) (lines above below : List PlainLine) (line : PlainLine) → AreLines p bytes at lines → lines ≡ above ++ line ∷ below → (at ≤ line.start) × (line.start < length bytes) × AreTokens p bytes line.start line.tokens

@@ -117,36 +117,37 @@ module _ (p : Bool) (bytes : List ℕ) (above : List PlainLine) (q : PlainCondit
       let range = i.5 in
       let passes = LineOut-behind p bytes above true [] at ts (λ (_ : Unit {0}) (_ : List Piece). Unit {0}) t.token.to var_name (t.token.piece ∷ []) (Ok tt) (var_got is few) (tt, subst (λ (r : Piece). Passes above (r ∷ []) (pieces t.more) []) (sym is) o.1) in
       let lo = low_bound d.2 range.0.negative range.0.size range.3 range.5 in
-      let hi = low_bound d.3 range.1.negative range.1.size range.4 range.6 in
-      (record { passes = passes.1; not_empty = no_range (pieces t.more) (all_tokens is) o.2 },
-       inl (record {
-         added = v;
-         is = refl;
-         declares = record {
-           lo = range.0;
-           hi = range.1;
-           written =
-             all_tokens is ∙ ap (λ (rs : List Piece). var ∷ rs) i.2
-             ∙ ap (λ (x : List ℕ). var ∷ name x ∷ i.1) i.3
-             ∙ ap (λ (rs : List Piece). var ∷ name v.name ∷ rs) range.2
-             ∙ sym (append_assoc (var ∷ name v.name ∷ integer_pieces range.0) (integer_pieces range.1) (line_end ∷ []));
-           low = range.3;
-           high = range.4;
-           fits = record { name = i.7; low = lo.0; order = i.6; high = hi.1 };
-         };
-         fresh = λ c. i.4 (subst (λ (xs : List (List ℕ)). Contains xs i.0) (sym named) (subst (λ (x : List ℕ). Contains (names_of q.vars) x) (sym i.3) c));
-       }))
+      let hi = low_bound d.3 range.1.negative range.1.size range.4 range.6 in (
+        record { passes = passes.1; not_empty = no_range (pieces t.more) (all_tokens is) o.2 },
+        inl (record {
+          added = v;
+          is = refl;
+          declares = record {
+            lo = range.0;
+            hi = range.1;
+            written =
+                all_tokens is ∙ ap (λ (rs : List Piece). var ∷ rs) i.2
+                ∙ ap (λ (x : List ℕ). var ∷ name x ∷ i.1) i.3
+                ∙ ap (λ (rs : List Piece). var ∷ name v.name ∷ rs) range.2
+                ∙ sym (append_assoc (var ∷ name v.name ∷ integer_pieces range.0) (integer_pieces range.1) (line_end ∷ []));
+            low = range.3;
+            high = range.4;
+            fits = record { name = i.7; low = lo.0; order = i.6; high = hi.1 };
+          };
+          fresh = λ c. i.4 (subst (λ (xs : List (List ℕ)). Contains xs i.0) (sym named) (subst (λ (x : List ℕ). Contains (names_of q.vars) x) (sym i.3) c));
+        }),
+      )
 
   var_out : t.token.piece ≡ var → LineResult above ts q (var_line_at p bytes q (shown t.token))
   unfolding var_line_at variable_at
   var_out is =
       elim (nat_eq (length q.vars) 64) as (λ b. nat_eq (length q.vars) 64 ≡ b → LineResult above ts q (cond b (Err (fault_at kinds.TooManyVars t.token.from)) ((declaration_at p bytes (names_of q.vars) t.token.to >>= λ d. Ok (record { name = slice_range bytes d.0 d.1; lo = d.2; hi = d.3 })) >>= λ v. Ok (record { vars = q.vars ++ v ∷ []; atoms = q.atoms })))) [
-        true ↦ λ e. record {
+        | true ↦ λ e. record {
           fails = Fails-one p bytes above true [] at ts t kinds.TooManyVars (record { stands = (refl, is, vars ∙ eq_true (length q.vars) 64 e); least = var_rank });
           not_empty = inr (omega arith);
         }
         | false ↦ λ e. declared_by is (eq_false (length q.vars) 64 e) (declaration_at p bytes (names_of q.vars) t.token.to)
-          (subst (λ (names : List (List ℕ)). DeclarationOut bytes above t.more (declaration_at p bytes names t.token.to)) named (declaration_out p bytes above t.token.to t.more (t.on (ap is_last is))))
+            (subst (λ (names : List (List ℕ)). DeclarationOut bytes above t.more (declaration_at p bytes names t.token.to)) named (declaration_out p bytes above t.token.to t.more (t.on (ap is_last is))))
       ] refl
 
   -- an atom begins the line
@@ -192,22 +193,23 @@ module _ (p : Bool) (bytes : List ℕ) (above : List PlainLine) (q : PlainCondit
 
   compared_by : (t.token.piece ≡ var → ⊥) → (r : Result Atom Fault) → LineOut above [] ts (λ atom ps. Compares (declared_names above) ps atom) r → LineResult above ts q (r >>= λ a. Ok (record { vars = q.vars; atoms = q.atoms ++ a ∷ [] }))
   compared_by no_var (Err f) o = record { fails = o; not_empty = inl (no_var_line no_var) }
-  compared_by no_var (Ok a) o =
-      (record { passes = o.1; not_empty = no_var_line no_var },
-       inr (record { added = a; is = refl; compares = subst (λ (names : List (List ℕ)). Compares names (pieces ts) a) named o.0 }))
+  compared_by no_var (Ok a) o = (
+    record { passes = o.1; not_empty = no_var_line no_var },
+    inr (record { added = a; is = refl; compares = subst (λ (names : List (List ℕ)). Compares names (pieces ts) a) named o.0 }),
+  )
 
   atom_line_out : (t.token.piece ≡ var → ⊥) → LineResult above ts q (atom_line_at p bytes q (shown t.token) at)
   unfolding atom_line_at full_query_at
   atom_line_out no_var =
       elim (nat_eq (length q.atoms) 256) as (λ b. nat_eq (length q.atoms) 256 ≡ b → LineResult above ts q (cond b (Err (cond (begins_atom_class (class_of t.token.piece)) (fault_at kinds.TooManyAtoms t.token.from) (refusal (shown t.token)))) (atom_at p bytes (names_of q.vars) at >>= λ a. Ok (record { vars = q.vars; atoms = q.atoms ++ a ∷ [] })))) [
-        true ↦ λ e. record {
+        | true ↦ λ e. record {
           fails =
-            subst (λ (b : Bool). Fails above [] ts (cond b (fault_at kinds.TooManyAtoms t.token.from) (refusal (shown t.token)))) (sym (begins-class t.token.piece))
-            (full_by no_var (atoms ∙ eq_true (length q.atoms) 256 e) (begins_atom t.token.piece) refl);
+              subst (λ (b : Bool). Fails above [] ts (cond b (fault_at kinds.TooManyAtoms t.token.from) (refusal (shown t.token)))) (sym (begins-class t.token.piece))
+              (full_by no_var (atoms ∙ eq_true (length q.atoms) 256 e) (begins_atom t.token.piece) refl);
           not_empty = inl (no_var_line no_var);
         }
         | false ↦ λ e. compared_by no_var (atom_at p bytes (names_of q.vars) at)
-          (subst (λ (names : List (List ℕ)). LineOut above [] ts (λ atom ps. Compares (declared_names above) ps atom) (atom_at p bytes names at)) named
+            (subst (λ (names : List (List ℕ)). LineOut above [] ts (λ atom ps. Compares (declared_names above) ps atom) (atom_at p bytes names at)) named
             (atom_out p bytes above at ts t no_var (λ full. eq_false (length q.atoms) 256 e (sym atoms ∙ full))))
       ] refl
 

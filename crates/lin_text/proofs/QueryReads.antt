@@ -92,11 +92,11 @@ side-head : (s : Side) (rest : List Piece) → (begins_variable (side_pieces s +
 unfolding side_pieces
 side-head s rest = by_first s.first.negative s.first.quantity _
   where
-  by_first : (negative : Bool) (q : Quantity) (more : List Piece) → (begins_variable (((sign negative ++ quantity_pieces q) ++ more) ++ rest) ≡ false) × (begins_comparison (((sign negative ++ quantity_pieces q) ++ more) ++ rest) ≡ true) × (declared_name (((sign negative ++ quantity_pieces q) ++ more) ++ rest) ≡ [])
-  by_first true q more = (refl, refl, refl)
-  by_first false (constant n) more = (refl, refl, refl)
-  by_first false (multiple n x) more = (refl, refl, refl)
-  by_first false (single x) more = (refl, refl, refl)
+    by_first : (negative : Bool) (q : Quantity) (more : List Piece) → (begins_variable (((sign negative ++ quantity_pieces q) ++ more) ++ rest) ≡ false) × (begins_comparison (((sign negative ++ quantity_pieces q) ++ more) ++ rest) ≡ true) × (declared_name (((sign negative ++ quantity_pieces q) ++ more) ++ rest) ≡ [])
+    by_first true q more = (refl, refl, refl)
+    by_first false (constant n) more = (refl, refl, refl)
+    by_first false (multiple n x) more = (refl, refl, refl)
+    by_first false (single x) more = (refl, refl, refl)
 
 comparison-head : (names : List (List ℕ)) (ps : List Piece) (a : Atom) → Compares names ps a → (begins_variable ps ≡ false) × (begins_comparison ps ≡ true) × (declared_name ps ≡ [])
 comparison-head names ps a c =
@@ -108,17 +108,18 @@ pairs-push : (xs : List PlainVar) (y : PlainVar) → AllPairs Differ xs → ((k 
 pairs-push xs y pairs last i j d before within =
     by_place (nat_lt j (length xs)) refl
   where
-  lens : length (xs ++ y ∷ []) ≡ length xs + 1
-  lens = length_push xs y
-  by_place : (b : Bool) → nat_lt j (length xs) ≡ b → Differ (get_or (xs ++ y ∷ []) i d) (get_or (xs ++ y ∷ []) j d)
-  by_place true e =
-      let lt : j < length xs = ltb-true j (length xs) e in
-      subst (λ (v : PlainVar). Differ (get_or (xs ++ y ∷ []) i d) v) (sym (get_or_append_left xs (y ∷ []) d j lt))
-      (subst (λ (v : PlainVar). Differ v (get_or xs j d)) (sym (get_or_append_left xs (y ∷ []) d i (omega arith))) (pairs i j d before lt))
-  by_place false e =
-      let is : length xs ≡ j = omega (arith, lens, ltb-false j (length xs) e) in
-      subst (λ (v : PlainVar). Differ (get_or (xs ++ y ∷ []) i d) v) (sym (get_or_push xs y d j is))
-      (subst (λ (v : PlainVar). Differ v y) (sym (get_or_append_left xs (y ∷ []) d i (omega arith))) (last i d (omega arith)))
+    lens : length (xs ++ y ∷ []) ≡ length xs + 1
+    lens = length_push xs y
+
+    by_place : (b : Bool) → nat_lt j (length xs) ≡ b → Differ (get_or (xs ++ y ∷ []) i d) (get_or (xs ++ y ∷ []) j d)
+    by_place true e =
+        let lt : j < length xs = ltb-true j (length xs) e in
+        subst (λ (v : PlainVar). Differ (get_or (xs ++ y ∷ []) i d) v) (sym (get_or_append_left xs (y ∷ []) d j lt))
+        (subst (λ (v : PlainVar). Differ v (get_or xs j d)) (sym (get_or_append_left xs (y ∷ []) d i (omega arith))) (pairs i j d before lt))
+    by_place false e =
+        let is : length xs ≡ j = omega (arith, lens, ltb-false j (length xs) e) in
+        subst (λ (v : PlainVar). Differ (get_or (xs ++ y ∷ []) i d) v) (sym (get_or_push xs y d j is))
+        (subst (λ (v : PlainVar). Differ v y) (sym (get_or_append_left xs (y ∷ []) d i (omega arith))) (last i d (omega arith)))
 
 fresh-differs : (vars : List PlainVar) (v : PlainVar) → (Contains (names_of vars) v.name → ⊥) → (k : ℕ) (d : PlainVar) → k < length vars → Differ (get_or vars k d) v
 fresh-differs vars v fresh k d lt same =
@@ -269,9 +270,9 @@ parted {X} (z ∷ xs) ys x (w ∷ us) vs u e =
     let same : z ≡ w = cc in
     let rest : xs ++ x ∷ ys ≡ us ++ u ∷ vs = cc in
     elim (parted xs ys x us vs u rest) [
-      inl h ↦ inl (h.0, ap (λ (zs : List X). w ∷ zs) h.1 ∙ ap (λ (y : X). y ∷ (xs ++ x ∷ h.0)) (sym same), h.2)
+      | inl h ↦ inl (h.0, ap (λ (zs : List X). w ∷ zs) h.1 ∙ ap (λ (y : X). y ∷ (xs ++ x ∷ h.0)) (sym same), h.2)
       | inr h ↦ elim h [
-        inl g ↦ inr (inl (ap (λ (zs : List X). z ∷ zs) g.0 ∙ ap (λ (y : X). y ∷ us) same, g.1, g.2))
+        | inl g ↦ inr (inl (ap (λ (zs : List X). z ∷ zs) g.0 ∙ ap (λ (y : X). y ∷ us) same, g.1, g.2))
         | inr g ↦ inr (inr (g.0, ap (λ (zs : List X). z ∷ zs) g.1 ∙ ap (λ (y : X). y ∷ (us ++ u ∷ g.0)) same, g.2))
       ]
     ]
@@ -314,7 +315,7 @@ range_stands above ts front after t e none h =
 clean_stands : (above : List PlainLine) (ts front after : List PlainToken) (t : PlainToken) → IsClean above ts → ts ≡ front ++ t ∷ after → (k : TextKind) → Stands above (pieces front) t.piece (pieces after) k → ⊥
 clean_stands above ts front after t clean e k h =
     elim (is_range k) [
-      inl is ↦ range_stands above ts front after t e clean.not_empty (subst (λ (j : TextKind). Stands above (pieces front) t.piece (pieces after) j) is h)
+      | inl is ↦ range_stands above ts front after t e clean.not_empty (subst (λ (j : TextKind). Stands above (pieces front) t.piece (pieces after) j) is h)
       | inr other ↦ no_fault_at above [] (pieces ts) [] (pieces front) (pieces after) t.piece clean.passes (ap pieces e ∙ pieces-split front after t) k other (subst (λ (ps : List Piece). Stands above (pieces front) t.piece ps k) (sym (append-nil (pieces after))) h)
     ]
 
@@ -335,34 +336,44 @@ before_first : (above : List PlainLine) (ts front mid : List PlainToken) (f : Fa
 before_first above ts front mid f fails t is after e k h =
     let g = fails.fails in
     let after_is : after ≡ mid ++ g.token ∷ g.after =
-      append_cancel_left (front ++ t ∷ []) after (mid ++ g.token ∷ g.after)
-      (append_assoc front (t ∷ []) after ∙ sym e ∙ g.split ∙ ap (λ (us : List PlainToken). us ++ g.token ∷ g.after) is ∙ append_assoc front (t ∷ mid) (g.token ∷ g.after) ∙ sym (append_assoc front (t ∷ []) (mid ++ g.token ∷ g.after))) in
+    append_cancel_left (front ++ t ∷ []) after (mid ++ g.token ∷ g.after)
+    (append_assoc front (t ∷ []) after ∙ sym e ∙ g.split ∙ ap (λ (us : List PlainToken). us ++ g.token ∷ g.after) is ∙ append_assoc front (t ∷ mid) (g.token ∷ g.after) ∙ sym (append_assoc front (t ∷ []) (mid ++ g.token ∷ g.after))) in
     elim (is_range k) [
-      inl r ↦ elim fails.not_empty [
-        inl none ↦ range_stands above ts front after t e none (subst (λ (j : TextKind). Stands above (pieces front) t.piece (pieces after) j) r h)
+      | inl r ↦ elim fails.not_empty [
+        | inl none ↦ range_stands above ts front after t e none (subst (λ (j : TextKind). Stands above (pieces front) t.piece (pieces after) j) r h)
         | inr few ↦
-          let s = subst (λ (j : TextKind). Stands above (pieces front) t.piece (pieces after) j) r h in
-          let two : length front ≡ 2 = sym (length-map front (λ (u : PlainToken). u.piece)) ∙ ap length s.1 in
-          absurd (omega (arith, few, ap length is, length-append front (t ∷ mid)))
+            let s = subst (λ (j : TextKind). Stands above (pieces front) t.piece (pieces after) j) r h in
+            let two : length front ≡ 2 = sym (length-map front (λ (u : PlainToken). u.piece)) ∙ ap length s.1 in
+            absurd (omega (arith, few, ap length is, length-append front (t ∷ mid)))
       ]
       | inr other ↦
-        no_fault_at above [] (pieces g.used) (g.token.piece ∷ pieces g.after) (pieces front) (pieces mid) t.piece g.passes (ap pieces is ∙ pieces-split front mid t) k other
-        (subst (λ (ps : List Piece). Stands above (pieces front) t.piece ps k) (ap pieces after_is ∙ pieces-split mid g.after g.token) h)
+          no_fault_at above [] (pieces g.used) (g.token.piece ∷ pieces g.after) (pieces front) (pieces mid) t.piece g.passes (ap pieces is ∙ pieces-split front mid t) k other
+          (subst (λ (ps : List Piece). Stands above (pieces front) t.piece ps k) (ap pieces after_is ∙ pieces-split mid g.after g.token) h)
     ]
 
 -- the first fault of a line behind clean ones is the first of the query
 module _ (p : Bool) (bytes : List ℕ) (at : ℕ) (done : List PlainLine) (clean : AreClean [] done) (ts : List PlainToken) (lt : at < length bytes) (are : AreTokens p bytes at ts) (f : Fault) (fails : FailsFirst done ts f) (rest : List PlainLine) (more : AreLines p bytes (line_below bytes at) rest) where
   abbrev line : PlainLine
   line = record { start = at; tokens = ts }
+
   abbrev all : List PlainLine
   all = done ++ line ∷ query_lines rest
+
   abbrev g : Fails done [] ts f
   g = fails.fails
 
   stands : StandsAt all f.kind f.at
   stands = record {
-    above = done; line = line; below = query_lines rest; front = g.used; token = g.token; after = g.after;
-    in_lines = refl; in_line = g.split; place = g.at; stands = g.first.stands;
+    above = done;
+    line = line;
+    below = query_lines rest;
+    front = g.used;
+    token = g.token;
+    after = g.after;
+    in_lines = refl;
+    in_line = g.split;
+    place = g.at;
+    stands = g.first.stands;
   }
 
   -- the fault lies within its line
@@ -373,7 +384,7 @@ module _ (p : Bool) (bytes : List ℕ) (at : ℕ) (done : List PlainLine) (clean
   behind : (back mid : List PlainLine) (m : PlainLine) → query_lines rest ≡ mid ++ m ∷ back → (front after : List PlainToken) (t : PlainToken) → m.tokens ≡ front ++ t ∷ after → f.at < t.from
   behind back mid m is front after t e =
       let whole : rest ≡ mid ++ m ∷ (back ++ drop (prefix_len is_of_query rest) rest) =
-        sym (take-append-drop (prefix_len is_of_query rest) rest) ∙ ap (λ (ls : List PlainLine). ls ++ drop (prefix_len is_of_query rest) rest) is ∙ append_assoc mid (m ∷ back) (drop (prefix_len is_of_query rest) rest) in
+      sym (take-append-drop (prefix_len is_of_query rest) rest) ∙ ap (λ (ls : List PlainLine). ls ++ drop (prefix_len is_of_query rest) rest) is ∙ append_assoc mid (m ∷ back) (drop (prefix_len is_of_query rest) rest) in
       let l = lines-behind p bytes (line_below bytes at) rest mid (back ++ drop (prefix_len is_of_query rest) rest) m more whole in
       let w = tokens-within p bytes m.start m.tokens front after t l.2 e in
       omega (arith, fault_within, l.0, l.1, w.0)
@@ -381,13 +392,15 @@ module _ (p : Bool) (bytes : List ℕ) (at : ℕ) (done : List PlainLine) (clean
   least_in_line : (k : TextKind) (front after : List PlainToken) (t : PlainToken) → ts ≡ front ++ t ∷ after → Stands done (pieces front) t.piece (pieces after) k → (f.at < t.from) ⊎ ((f.at ≡ t.from) × (rank f.kind ≤ rank k))
   least_in_line k front after t e h =
       elim (parted g.used g.after g.token front after t (sym g.split ∙ e)) [
-        inl later ↦
-          let there : ts ≡ g.used ++ g.token ∷ (later.0 ++ t ∷ after) = g.split ∙ ap (λ (us : List PlainToken). g.used ++ g.token ∷ us) later.2 in
-          inl (let lt' = tokens-later p bytes at ts g.used later.0 after g.token t are there in omega (arith, lt', g.at))
+        | inl later ↦
+            let there : ts ≡ g.used ++ g.token ∷ (later.0 ++ t ∷ after) = g.split ∙ ap (λ (us : List PlainToken). g.used ++ g.token ∷ us) later.2 in
+            inl (let lt' = tokens-later p bytes at ts g.used later.0 after g.token t are there in omega (arith, lt', g.at))
         | inr other ↦ elim other [
-          inl same ↦
-            inr (g.at ∙ ap (λ (u : PlainToken). u.from) same.1,
-              g.first.least k (subst (λ (us : List PlainToken). Stands done (pieces us) g.token.piece (pieces g.after) k) (sym same.0) (subst (λ (u : PlainToken). Stands done (pieces front) u.piece (pieces g.after) k) (sym same.1) (subst (λ (us : List PlainToken). Stands done (pieces front) t.piece (pieces us) k) (sym same.2) h))))
+          | inl same ↦
+              inr (
+                g.at ∙ ap (λ (u : PlainToken). u.from) same.1,
+                g.first.least k (subst (λ (us : List PlainToken). Stands done (pieces us) g.token.piece (pieces g.after) k) (sym same.0) (subst (λ (u : PlainToken). Stands done (pieces front) u.piece (pieces g.after) k) (sym same.1) (subst (λ (us : List PlainToken). Stands done (pieces front) t.piece (pieces us) k) (sym same.2) h))),
+              )
           | inr earlier ↦ absurd (before_first done ts front earlier.0 f fails t earlier.1 after e k h)
         ]
       ]
@@ -396,13 +409,13 @@ module _ (p : Bool) (bytes : List ℕ) (at : ℕ) (done : List PlainLine) (clean
   least_of k place s =
       subst (λ (n : ℕ). (f.at < n) ⊎ ((f.at ≡ n) × (rank f.kind ≤ rank k))) (sym s.place)
       (elim (parted done (query_lines rest) line s.above s.below s.line s.in_lines) [
-        inl later ↦ inl (behind s.below later.0 s.line later.2 s.front s.after s.token s.in_line)
+        | inl later ↦ inl (behind s.below later.0 s.line later.2 s.front s.after s.token s.in_line)
         | inr other ↦ elim other [
-          inl same ↦
-            least_in_line k s.front s.after s.token (ap (λ (l : PlainLine). l.tokens) same.1 ∙ s.in_line)
-            (subst (λ (ls : List PlainLine). Stands ls (pieces s.front) s.token.piece (pieces s.after) k) (sym same.0) s.stands)
+          | inl same ↦
+              least_in_line k s.front s.after s.token (ap (λ (l : PlainLine). l.tokens) same.1 ∙ s.in_line)
+              (subst (λ (ls : List PlainLine). Stands ls (pieces s.front) s.token.piece (pieces s.after) k) (sym same.0) s.stands)
           | inr earlier ↦
-            absurd (clean_stands s.above s.line.tokens s.front s.after s.token (clean_line [] done s.above earlier.0 s.line clean earlier.1) s.in_line k s.stands)
+              absurd (clean_stands s.above s.line.tokens s.front s.after s.token (clean_line [] done s.above earlier.0 s.line clean earlier.1) s.in_line k s.stands)
         ]
       ])
 
@@ -414,7 +427,7 @@ faulty p bytes from at q ts f got lt are no_word fails =
     let more = lines_total (suc (length bytes)) p bytes (line_below bytes at) (omega arith) (omega arith) in
     let line : PlainLine = record { start = at; tokens = ts } in
     let lines : query_lines (got.done ++ line ∷ more.0) ≡ got.done ++ line ∷ query_lines more.0 =
-      query-lines got.done (line ∷ more.0) got.of_query ∙ ap (λ (ls : List PlainLine). got.done ++ ls) (query-lines (line ∷ []) more.0 (ap not no_word, tt)) in
+    query-lines got.done (line ∷ more.0) got.of_query ∙ ap (λ (ls : List PlainLine). got.done ++ ls) (query-lines (line ∷ []) more.0 (ap not no_word, tt)) in
     record {
       lines = got.done ++ line ∷ more.0;
       are = got.lines (line ∷ more.0) (refl, lt, are, more.1);

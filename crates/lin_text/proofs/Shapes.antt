@@ -57,12 +57,16 @@ with_item l (suc m) f i front =
     let b = front.0 in
     let s = front.1 in
     let j : Joined = record { subtracted = front.2; item = i } in
-    let counts : item_count (grown s j) ≡ suc (suc m) = omega (arith, length_push s.later j, front.4) in
-    (b, grown s j, front.3, counts,
-     ap (λ (ps : List Piece). ps ++ item_pieces i) front.5
-     ∙ append_assoc (b ++ side_pieces s) (joint front.2 ∷ []) (item_pieces i)
-     ∙ append_assoc b (side_pieces s) (joined_pieces j)
-     ∙ ap (λ (ps : List Piece). b ++ ps) (sym (side_pieces-grown s j)))
+    let counts : item_count (grown s j) ≡ suc (suc m) = omega (arith, length_push s.later j, front.4) in (
+      b,
+      grown s j,
+      front.3,
+      counts,
+      ap (λ (ps : List Piece). ps ++ item_pieces i) front.5
+          ∙ append_assoc (b ++ side_pieces s) (joint front.2 ∷ []) (item_pieces i)
+          ∙ append_assoc b (side_pieces s) (joined_pieces j)
+          ∙ ap (λ (ps : List Piece). b ++ ps) (sym (side_pieces-grown s j)),
+    )
 
 -- a sign behind an item
 with_joint : (l : Bool) (n m : ℕ) (f ps : List Piece) (i : Item) (sub : Bool) → n ≡ suc m → ItemFront l m f → ps ≡ f ++ item_pieces i → ItemFront l n (ps ++ joint sub ∷ [])
@@ -80,9 +84,10 @@ with_compare n m f ps i c front is =
 -- the end behind the right side
 with_end : (m : ℕ) (f ps : List Piece) (i : Item) → ItemFront false m f → ps ≡ f ++ item_pieces i → (line : Line) × (ps ++ line_end ∷ [] ≡ line_pieces line)
 with_end m f ps i front is =
-    let w = with_item false m f i front in
-    (comparison w.2.0 w.2.1 w.1,
-     ap (λ (qs : List Piece). qs ++ line_end ∷ []) (is ∙ w.4 ∙ ap (λ (b : List Piece). b ++ side_pieces w.1) w.2.2 ∙ append_assoc (side_pieces w.2.0) (compare w.2.1 ∷ []) (side_pieces w.1)))
+    let w = with_item false m f i front in (
+      comparison w.2.0 w.2.1 w.1,
+      ap (λ (qs : List Piece). qs ++ line_end ∷ []) (is ∙ w.4 ∙ ap (λ (b : List Piece). b ++ side_pieces w.1) w.2.2 ∙ append_assoc (side_pieces w.2.0) (compare w.2.1 ∷ []) (side_pieces w.1)),
+    )
 
 from_item : (l : Bool) (n : ℕ) (ps : List Piece) (p : Piece) (t : Place) → ItemFront l n ps → item_next l n p ≡ Some t → Shape t (ps ++ p ∷ [])
 from_item l n ps minus t front e = let same : size l n ≡ t = cc in subst (λ (s : Place). Shape s (ps ++ minus ∷ [])) same (ps, front, refl)
@@ -131,12 +136,17 @@ from_after false n bare ps line_end t s e =
 from_after _ n _ ps _ t s e = absurd (cc)
 
 from_factor : (l : Bool) (n : ℕ) (ps : List Piece) (x : List ℕ) → Shape (factor l n) ps → Shape (after l n false) (ps ++ name x ∷ [])
-from_factor l n ps x s =
-    (s.0, record { negative = s.1; quantity = multiple s.2 x }, s.3, s.4, s.5,
-     ap (λ (qs : List Piece). qs ++ name x ∷ []) s.6
-     ∙ append_assoc (s.0 ++ sign s.1) (number s.2 ∷ times ∷ []) (name x ∷ [])
-     ∙ append_assoc s.0 (sign s.1) (number s.2 ∷ times ∷ name x ∷ []),
-     tt)
+from_factor l n ps x s = (
+  s.0,
+  record { negative = s.1; quantity = multiple s.2 x },
+  s.3,
+  s.4,
+  s.5,
+  ap (λ (qs : List Piece). qs ++ name x ∷ []) s.6
+      ∙ append_assoc (s.0 ++ sign s.1) (number s.2 ∷ times ∷ []) (name x ∷ [])
+      ∙ append_assoc s.0 (sign s.1) (number s.2 ∷ times ∷ name x ∷ []),
+  tt,
+)
 
 pub Shape-next : (s t : Place) (ps : List Piece) (p : Piece) → Shape s ps → next s p ≡ Some t → Shape t (ps ++ p ∷ [])
 Shape-next start t ps var h e = let same : var_name ≡ t = cc in subst (λ (u : Place). Shape u (ps ++ var ∷ [])) same (ap (λ (qs : List Piece). qs ++ var ∷ []) h)
@@ -162,7 +172,7 @@ pub Shape-run : (s t : Place) (ps qs : List Piece) → Shape s ps → run s qs �
 Shape-run s t ps [] h e = let same : s ≡ t = cc in subst (λ (qs : List Piece). Shape t qs) (sym (append-nil ps)) (subst (λ (u : Place). Shape u ps) same h)
 Shape-run s t ps (q ∷ qs) h e =
     elim (next s q) as (λ o. next s q ≡ o → option_and_then (λ u. run u qs) o ≡ Some t → Shape t (ps ++ q ∷ qs)) [
-      None ↦ λ is j. absurd (cc)
+      | None ↦ λ is j. absurd (cc)
       | Some u ↦ λ is j. subst (λ (rs : List Piece). Shape t rs) (append_assoc ps (q ∷ []) qs) (Shape-run u t (ps ++ q ∷ []) qs (Shape-next s u ps q h is) j)
     ] refl e
 

@@ -102,19 +102,26 @@ module _ (p : Bool) (bytes : List ℕ) (above : List PlainLine) (front : List Pi
 
   pub last_out : is_joint (class_of t.token.piece) ≡ false → Goal (Ok (term ∷ [], to))
   last_out none =
-      let ends : is_joint (lexeme_at p bytes to).class ≡ false = ap (λ (x : Lexeme). is_joint x.class) t.shows ∙ none in
-      ([], s,
-       (m.0, [], m.1, ap (λ (qs : List Piece). qs ++ []) m.2, (m.3, refl), m.4 ∙ ap (λ (j : ℕ). after l j m.1) (let same : suc k ≡ suc k + 0 = omega arith in same), m.5, ends, omega arith),
-       Gets-none p bytes above false (front ++ ps) to rest s are place)
+      let ends : is_joint (lexeme_at p bytes to).class ≡ false = ap (λ (x : Lexeme). is_joint x.class) t.shows ∙ none in (
+        [],
+        s,
+        (m.0, [], m.1, ap (λ (qs : List Piece). qs ++ []) m.2, (m.3, refl), m.4 ∙ ap (λ (j : ℕ). after l j m.1) (let same : suc k ≡ suc k + 0 = omega arith in same), m.5, ends, omega arith),
+        Gets-none p bytes above false (front ++ ps) to rest s are place,
+      )
 
   more_means : (q : Piece) (b : List PlainTerm) (to' : ℕ) (qs : List Piece) (u : Place) → is_joint (class_of q) ≡ true → IsSideAt p bytes (declared_names above) (is_minus (class_of q)) l (suc k) n b to' qs u → IsSideAt p bytes (declared_names above) subtracted l k (suc n) (term ∷ b) to' (ps ++ ((q ∷ []) ++ qs)) u
   more_means q b to' qs u some r =
-      let j : Joined = record { subtracted = is_minus (class_of q); item = r.0 } in
-      (m.0, j ∷ r.1, r.2,
-       ap (λ (xs : List Piece). xs ++ (q ∷ qs)) m.2 ∙ ap (λ (xs : List Piece). item_pieces m.0 ++ (q ∷ xs)) r.3 ∙ ap (λ (x : Piece). item_pieces m.0 ++ (x ∷ (item_pieces r.0 ++ flat_map joined_pieces r.1))) (joint-is q some),
-       (m.3, r.4),
-       r.5 ∙ ap (λ (i : ℕ). after l i r.2) (let same : suc (suc k) + length r.1 ≡ suc k + suc (length r.1) = omega arith in same),
-       r.6, r.7, omega (arith, r.8))
+      let j : Joined = record { subtracted = is_minus (class_of q); item = r.0 } in (
+        m.0,
+        j ∷ r.1,
+        r.2,
+        ap (λ (xs : List Piece). xs ++ (q ∷ qs)) m.2 ∙ ap (λ (xs : List Piece). item_pieces m.0 ++ (q ∷ xs)) r.3 ∙ ap (λ (x : Piece). item_pieces m.0 ++ (x ∷ (item_pieces r.0 ++ flat_map joined_pieces r.1))) (joint-is q some),
+        (m.3, r.4),
+        r.5 ∙ ap (λ (i : ℕ). after l i r.2) (let same : suc (suc k) + length r.1 ≡ suc k + suc (length r.1) = omega arith in same),
+        r.6,
+        r.7,
+        omega (arith, r.8),
+      )
 
   pub more_out : is_joint (class_of t.token.piece) ≡ true → ((front' : List Piece) (at' : ℕ) (ts' : List PlainToken) → At false front' (item l (suc k)) → (t' : Token p bytes at' ts') → IsRoom above front' t'.token.piece → Outcome p bytes above false front' ts' (IsSideAt p bytes (declared_names above) (is_minus (class_of t.token.piece)) l (suc k) n) (items_at n p bytes (declared_names above) (is_minus (class_of t.token.piece)) at')) → Goal (items_at n p bytes (declared_names above) (is_minus (class_of t.token.piece)) t.token.to >>= λ later. Ok (term ∷ later.0, later.1))
   more_out some later =
@@ -123,19 +130,20 @@ module _ (p : Bool) (bytes : List ℕ) (above : List PlainLine) (front : List Pi
       let room : IsRoom above (front ++ ps) t.token.piece = nonempty_room in
       let goes = joint-next l (suc k) m.1 t.token.piece some in
       let first = Gets-one p bytes above false (front ++ ps) to rest t (item l (suc k))
-        (sign_passed above false (front ++ ps) (after l (suc k) m.1) (item l (suc k)) t.token.piece (pieces t.more) here room goes (not_size l (suc k) m.1) facts.1 facts.2)
-        (At-next false (front ++ ps) (after l (suc k) m.1) (item l (suc k)) t.token.piece here room.vars goes)
-        facts.0 in
+      (sign_passed above false (front ++ ps) (after l (suc k) m.1) (item l (suc k)) t.token.piece (pieces t.more) here room goes (not_size l (suc k) m.1) facts.1 facts.2)
+      (At-next false (front ++ ps) (after l (suc k) m.1) (item l (suc k)) t.token.piece here room.vars goes)
+      facts.0 in
       let next_token = token_of p bytes t.token.to first.rest first.there in
       Outcome-after p bytes above false (front ++ ps) to rest (λ b to' qs u. IsSideAt p bytes (declared_names above) subtracted l k (suc n) b to' (ps ++ qs) u) t.token.to (item l (suc k)) (t.token.piece ∷ []) _ first
       (Outcome-map p bytes above false ((front ++ ps) ++ t.token.piece ∷ []) first.rest (IsSideAt p bytes (declared_names above) (is_minus (class_of t.token.piece)) l (suc k) n) (λ b to' qs u. IsSideAt p bytes (declared_names above) subtracted l k (suc n) b to' (ps ++ ((t.token.piece ∷ []) ++ qs)) u) (λ (b : List PlainTerm). term ∷ b) _
-        (λ b to' qs u r. more_means t.token.piece b to' qs u some r)
-        (later ((front ++ ps) ++ t.token.piece ∷ []) t.token.to first.rest first.place next_token (later_room above (front ++ ps) t.token.piece next_token.token.piece)))
+      (λ b to' qs u r. more_means t.token.piece b to' qs u some r)
+      (later ((front ++ ps) ++ t.token.piece ∷ []) t.token.to first.rest first.place next_token (later_room above (front ++ ps) t.token.piece next_token.token.piece)))
     where
-    item-some : (i : Item) (xs : List Piece) → xs ≡ item_pieces i → front ++ xs ≡ [] → ⊥
-    item-some i xs e f = item_pieces-some i.negative i.quantity (sym e ∙ right-nil front xs f)
-    nonempty_room : IsRoom above (front ++ ps) t.token.piece
-    nonempty_room = record { vars = λ e _. item-some m.0 ps m.2 e; atoms = λ e _ _. item-some m.0 ps m.2 e }
+      item-some : (i : Item) (xs : List Piece) → xs ≡ item_pieces i → front ++ xs ≡ [] → ⊥
+      item-some i xs e f = item_pieces-some i.negative i.quantity (sym e ∙ right-nil front xs f)
+
+      nonempty_room : IsRoom above (front ++ ps) t.token.piece
+      nonempty_room = record { vars = λ e _. item-some m.0 ps m.2 e; atoms = λ e _ _. item-some m.0 ps m.2 e }
 
 pub items_out : (n k : ℕ) (p : Bool) (bytes : List ℕ) (above : List PlainLine) (front : List Piece) (at : ℕ) (ts : List PlainToken) (l : Bool) (subtracted : Bool) → n + k ≡ 64 → At false front (item l k) → (t : Token p bytes at ts) → IsRoom above front t.token.piece → Outcome p bytes above false front ts (IsSideAt p bytes (declared_names above) subtracted l k n) (items_at n p bytes (declared_names above) subtracted at)
 unfolding items_at
@@ -146,13 +154,13 @@ items_out (suc n) k p bytes above front at ts l subtracted sum here t room =
     Outcome-then p bytes above false front at ts (IsItemAt p bytes (declared_names above) subtracted l k) (IsSideAt p bytes (declared_names above) subtracted l k (suc n)) (item_at p bytes (declared_names above) subtracted at) _
     (item_out p bytes above front at ts l k (omega (arith, sum)) here subtracted t room)
     (λ term to ps s m place rest are.
-      let next_token = token_of p bytes to rest are in
-      subst (λ (x : Lexeme). Outcome p bytes above false (front ++ ps) rest (λ b to' qs u. IsSideAt p bytes (declared_names above) subtracted l k (suc n) b to' (ps ++ qs) u) (cond (is_joint x.class) (items_at n p bytes (declared_names above) (is_minus x.class) x.to >>= λ later. Ok (term ∷ later.0, later.1)) (Ok (term ∷ [], to)))) (sym next_token.shows)
-      (elim (is_joint (class_of next_token.token.piece)) as (λ b. is_joint (class_of next_token.token.piece) ≡ b → Outcome p bytes above false (front ++ ps) rest (λ b' to' qs u. IsSideAt p bytes (declared_names above) subtracted l k (suc n) b' to' (ps ++ qs) u) (cond b (items_at n p bytes (declared_names above) (is_minus (class_of next_token.token.piece)) next_token.token.to >>= λ later. Ok (term ∷ later.0, later.1)) (Ok (term ∷ [], to)))) [
-        true ↦ λ some. more_out p bytes above front at ts l k n subtracted term to ps s m place rest are next_token some
+    let next_token = token_of p bytes to rest are in
+    subst (λ (x : Lexeme). Outcome p bytes above false (front ++ ps) rest (λ b to' qs u. IsSideAt p bytes (declared_names above) subtracted l k (suc n) b to' (ps ++ qs) u) (cond (is_joint x.class) (items_at n p bytes (declared_names above) (is_minus x.class) x.to >>= λ later. Ok (term ∷ later.0, later.1)) (Ok (term ∷ [], to)))) (sym next_token.shows)
+    (elim (is_joint (class_of next_token.token.piece)) as (λ b. is_joint (class_of next_token.token.piece) ≡ b → Outcome p bytes above false (front ++ ps) rest (λ b' to' qs u. IsSideAt p bytes (declared_names above) subtracted l k (suc n) b' to' (ps ++ qs) u) (cond b (items_at n p bytes (declared_names above) (is_minus (class_of next_token.token.piece)) next_token.token.to >>= λ later. Ok (term ∷ later.0, later.1)) (Ok (term ∷ [], to)))) [
+      | true ↦ λ some. more_out p bytes above front at ts l k n subtracted term to ps s m place rest are next_token some
           (λ front' at' ts' here' t' room'. items_out n (suc k) p bytes above front' at' ts' l (is_minus (class_of next_token.token.piece)) (omega (arith, sum)) here' t' room')
-        | false ↦ λ none. last_out p bytes above front at ts l k n subtracted term to ps s m place rest are next_token none
-      ] refl))
+      | false ↦ λ none. last_out p bytes above front at ts l k n subtracted term to ps s m place rest are next_token none
+    ] refl))
 
 -- a side, with what may follow it
 abbrev pub IsWholeSide : Bool → List ℕ → List (List ℕ) → Bool → List PlainTerm → ℕ → List Piece → Place → Type 0
@@ -169,6 +177,6 @@ unfolding side_at side_pieces
 side_out p bytes above front at ts l here t room =
     Outcome-weaker p bytes above false front ts (IsSideAt p bytes (declared_names above) false l 0 64) (IsWholeSide p bytes (declared_names above) l) (items_at 64 p bytes (declared_names above) false at)
     (λ terms to ps s m.
-      let count : length terms ≡ suc (length m.1) = length-AreTerms (declared_names above) (record { subtracted = false; item = m.0 } ∷ m.1) terms m.4 in
-      (record { first = m.0; later = m.1 }, suc 0 + length m.1, m.2, m.3, (m.4, record { some = omega arith; few = omega (arith, m.8) }), m.5, m.6, m.7))
+    let count : length terms ≡ suc (length m.1) = length-AreTerms (declared_names above) (record { subtracted = false; item = m.0 } ∷ m.1) terms m.4 in
+    (record { first = m.0; later = m.1 }, suc 0 + length m.1, m.2, m.3, (m.4, record { some = omega arith; few = omega (arith, m.8) }), m.5, m.6, m.7))
     (items_out 64 0 p bytes above front at ts l false refl here t room)

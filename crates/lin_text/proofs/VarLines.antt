@@ -46,21 +46,26 @@ module _ (p : Bool) (bytes : List ℕ) (above : List PlainLine) (at : ℕ) (ts :
 
   free_by : (x : List ℕ) → t.token.piece ≡ name x → (o : Option ℕ) → number_in (declared_names above) bytes (shown t.token) ≡ o → FreeNameOut p bytes above ts (cond (is_some o) (Err (fault_at NameTwice t.token.from)) (Ok (t.token.from, t.token.to)))
   free_by x is (Some k) e =
-      let there : position (bytes_eq x) (declared_names above) ≡ Some k = ap (λ (y : List ℕ). position (bytes_eq y) (declared_names above)) (name-text p bytes at t.token x t.is is) ∙ e in
-      (Fails-one p bytes above true (var ∷ []) at ts t NameTwice (record {
-        stands = (x, is, refl, Contains-position x (declared_names above) k there);
-        least = twice_rank above true (var ∷ []) var_name low t.token.piece (pieces t.more) At-var (var_room above (var ∷ []) t.token.piece (λ f. cc)) (ap (next var_name) is) (λ l f. cc) (λ n same. let no : name x ≡ number n = sym is ∙ same in cc) refl;
-      }), refl)
+      let there : position (bytes_eq x) (declared_names above) ≡ Some k = ap (λ (y : List ℕ). position (bytes_eq y) (declared_names above)) (name-text p bytes at t.token x t.is is) ∙ e in (
+        Fails-one p bytes above true (var ∷ []) at ts t NameTwice (record {
+          stands = (x, is, refl, Contains-position x (declared_names above) k there);
+          least = twice_rank above true (var ∷ []) var_name low t.token.piece (pieces t.more) At-var (var_room above (var ∷ []) t.token.piece (λ f. cc)) (ap (next var_name) is) (λ l f. cc) (λ n same. let no : name x ≡ number n = sym is ∙ same in cc) refl;
+        }),
+        refl,
+      )
   free_by x is None e =
-      let there : position (bytes_eq x) (declared_names above) ≡ None = ap (λ (y : List ℕ). position (bytes_eq y) (declared_names above)) (name-text p bytes at t.token x t.is is) ∙ e in
-      (t.token.piece ∷ [], low, (x, ap (λ (q : Piece). q ∷ []) is, name-text p bytes at t.token x t.is is, position-none x (declared_names above) there, refl, named-plain p bytes at t.token x t.is is),
-       Gets-one p bytes above true (var ∷ []) at ts t low
-       (passed above true (var ∷ []) var_name low t.token.piece (pieces t.more) At-var (var_room above (var ∷ []) t.token.piece (λ f. cc)) (ap (next var_name) is) (λ l f. cc)
-         (λ n same. let no : name x ≡ number n = sym is ∙ same in absurd (cc))
-         (λ y same f. absurd (cc))
-         (λ y same _ there'. let eq : y ≡ x = (let no : name y ≡ name x = sym same ∙ is in cc) in position-none x (declared_names above) there (subst (λ (z : List ℕ). Contains (declared_names above) z) eq there')))
-       (At-next true (var ∷ []) var_name low t.token.piece At-var (λ f _. absurd (cc)) (ap (next var_name) is))
-       (ap is_last is))
+      let there : position (bytes_eq x) (declared_names above) ≡ None = ap (λ (y : List ℕ). position (bytes_eq y) (declared_names above)) (name-text p bytes at t.token x t.is is) ∙ e in (
+        t.token.piece ∷ [],
+        low,
+        (x, ap (λ (q : Piece). q ∷ []) is, name-text p bytes at t.token x t.is is, position-none x (declared_names above) there, refl, named-plain p bytes at t.token x t.is is),
+        Gets-one p bytes above true (var ∷ []) at ts t low
+            (passed above true (var ∷ []) var_name low t.token.piece (pieces t.more) At-var (var_room above (var ∷ []) t.token.piece (λ f. cc)) (ap (next var_name) is) (λ l f. cc)
+            (λ n same. let no : name x ≡ number n = sym is ∙ same in absurd (cc))
+            (λ y same f. absurd (cc))
+            (λ y same _ there'. let eq : y ≡ x = (let no : name y ≡ name x = sym same ∙ is in cc) in position-none x (declared_names above) there (subst (λ (z : List ℕ). Contains (declared_names above) z) eq there')))
+            (At-next true (var ∷ []) var_name low t.token.piece At-var (λ f _. absurd (cc)) (ap (next var_name) is))
+            (ap is_last is),
+      )
 
   free_piece : (q : Piece) → t.token.piece ≡ q → FreeNameOut p bytes above ts (cond (is_name_class (class_of q)) (cond (is_some (number_in (declared_names above) bytes (shown t.token))) (Err (fault_at NameTwice t.token.from)) (Ok (t.token.from, t.token.to))) (Err (refusal (shown t.token))))
   free_piece (name x) is = free_by x is (number_in (declared_names above) bytes (shown t.token)) refl
@@ -97,12 +102,15 @@ unfolding integer_at
 reads_plain p bytes at ts n more le are e =
     let t = token_of p bytes at ts are in
     let all : t.token.piece ∷ pieces t.more ≡ number n ∷ more = ap pieces (sym t.split) ∙ e in
-    let is : t.token.piece ≡ number n = cc in
-    (t.token.to, t.more,
-     ap (integer_by p bytes) t.shows
-     ∙ ap (λ (q : Piece). cond (is_minus (class_of q)) (bound_of (lexeme_at p bytes t.token.to) >>= λ m. Ok (neg_ℤ m.0, m.1)) (bound_of (shown t.token))) is
-     ∙ bound_reads t.token n is le,
-     t.on (ap is_last is), cc)
+    let is : t.token.piece ≡ number n = cc in (
+      t.token.to,
+      t.more,
+      ap (integer_by p bytes) t.shows
+          ∙ ap (λ (q : Piece). cond (is_minus (class_of q)) (bound_of (lexeme_at p bytes t.token.to) >>= λ m. Ok (neg_ℤ m.0, m.1)) (bound_of (shown t.token))) is
+          ∙ bound_reads t.token n is le,
+      t.on (ap is_last is),
+      cc,
+    )
 
 reads_minus : (p : Bool) (bytes : List ℕ) (at : ℕ) (ts : List PlainToken) (n : ℕ) (more : List Piece) → n ≤ 2 ^ 31 → AreTokens p bytes at ts → pieces ts ≡ minus ∷ number n ∷ more → Reads p bytes at (neg_ℤ (pos n)) more
 unfolding integer_at
@@ -114,13 +122,16 @@ reads_minus p bytes at ts n more le are e =
     let there = t.on (ap is_last is) in
     let u = token_of p bytes t.token.to t.more there in
     let next_all : u.token.piece ∷ pieces u.more ≡ number n ∷ more = ap pieces (sym u.split) ∙ behind in
-    let isn : u.token.piece ≡ number n = cc in
-    (u.token.to, u.more,
-     ap (integer_by p bytes) t.shows
-     ∙ ap (λ (q : Piece). cond (is_minus (class_of q)) (bound_of (lexeme_at p bytes t.token.to) >>= λ m. Ok (neg_ℤ m.0, m.1)) (bound_of (shown t.token))) is
-     ∙ ap (λ (l : Lexeme). bound_of l >>= λ m. Ok (neg_ℤ m.0, m.1)) u.shows
-     ∙ ap (λ (r : Result (ℤ × ℕ) Fault). r >>= λ m. Ok (neg_ℤ m.0, m.1)) (bound_reads u.token n isn le),
-     u.on (ap is_last isn), cc)
+    let isn : u.token.piece ≡ number n = cc in (
+      u.token.to,
+      u.more,
+      ap (integer_by p bytes) t.shows
+          ∙ ap (λ (q : Piece). cond (is_minus (class_of q)) (bound_of (lexeme_at p bytes t.token.to) >>= λ m. Ok (neg_ℤ m.0, m.1)) (bound_of (shown t.token))) is
+          ∙ ap (λ (l : Lexeme). bound_of l >>= λ m. Ok (neg_ℤ m.0, m.1)) u.shows
+          ∙ ap (λ (r : Result (ℤ × ℕ) Fault). r >>= λ m. Ok (neg_ℤ m.0, m.1)) (bound_reads u.token n isn le),
+      u.on (ap is_last isn),
+      cc,
+    )
 
 integer_reads : (p : Bool) (bytes : List ℕ) (at : ℕ) (ts : List PlainToken) (negative : Bool) (n : ℕ) (more : List Piece) → n ≤ 2 ^ 31 → AreTokens p bytes at ts → pieces ts ≡ (sign negative ++ number n ∷ []) ++ more → Reads p bytes at (integer_value (record { negative = negative; size = n })) more
 integer_reads p bytes at ts true n more le are e = reads_minus p bytes at ts n more le are e
@@ -154,9 +165,9 @@ range_at-then : {X : Type 0} (p : Bool) (bytes : List ℕ) (at : ℕ) (g : ℤ �
 unfolding range_at range_by
 range_at-then {X} p bytes at g =
     elim (integer_at p bytes at) as (λ r. ((r >>= λ lo. integer_at p bytes lo.1 >>= λ hi. ranged (int_lt hi.0 lo.0) (fault_at EmptyRange (lexeme_at p bytes at).from) lo.0 hi.0 hi.1) >>= λ r'. g r'.0 r'.1 r'.2) ≡ (r >>= λ lo. integer_at p bytes lo.1 >>= λ hi. cond (int_lt hi.0 lo.0) (Err (fault_at EmptyRange (lexeme_at p bytes at).from)) (g lo.0 hi.0 hi.1))) [
-      Err f ↦ refl
+      | Err f ↦ refl
       | Ok lo ↦ elim (integer_at p bytes lo.1) as (λ r. ((r >>= λ hi. ranged (int_lt hi.0 lo.0) (fault_at EmptyRange (lexeme_at p bytes at).from) lo.0 hi.0 hi.1) >>= λ r'. g r'.0 r'.1 r'.2) ≡ (r >>= λ hi. cond (int_lt hi.0 lo.0) (Err (fault_at EmptyRange (lexeme_at p bytes at).from)) (g lo.0 hi.0 hi.1))) [
-        Err f ↦ refl
+        | Err f ↦ refl
         | Ok hi ↦ elim (int_lt hi.0 lo.0) as (λ b. (ranged b (fault_at EmptyRange (lexeme_at p bytes at).from) lo.0 hi.0 hi.1 >>= λ r'. g r'.0 r'.1 r'.2) ≡ cond b (Err (fault_at EmptyRange (lexeme_at p bytes at).from)) (g lo.0 hi.0 hi.1)) [ true ↦ refl | false ↦ refl ]
       ]
     ]
@@ -218,19 +229,21 @@ module _ {X : Type 0} (p : Bool) (bytes : List ℕ) (above : List PlainLine) (fr
       let i = o.2.0 in
       let j = u.2.0 in
       let all : t.token.piece ∷ pieces t.more ≡ integer_pieces i ++ (integer_pieces j ++ pieces u.3.rest) =
-        ap pieces (sym t.split) ∙ ap pieces o.3.split ∙ map-append (λ (y : PlainToken). y.piece) o.3.used o.3.rest
-        ∙ ap (λ (qs : List Piece). qs ++ pieces o.3.rest) (o.3.are ∙ o.2.1)
-        ∙ ap (λ (qs : List Piece). integer_pieces i ++ qs) (ap pieces u.3.split ∙ map-append (λ (y : PlainToken). y.piece) u.3.used u.3.rest ∙ ap (λ (qs : List Piece). qs ++ pieces u.3.rest) (u.3.are ∙ u.2.1)) in
+      ap pieces (sym t.split) ∙ ap pieces o.3.split ∙ map-append (λ (y : PlainToken). y.piece) o.3.used o.3.rest
+      ∙ ap (λ (qs : List Piece). qs ++ pieces o.3.rest) (o.3.are ∙ o.2.1)
+      ∙ ap (λ (qs : List Piece). integer_pieces i ++ qs) (ap pieces u.3.split ∙ map-append (λ (y : PlainToken). y.piece) u.3.used u.3.rest ∙ ap (λ (qs : List Piece). qs ++ pieces u.3.rest) (u.3.are ∙ u.2.1)) in
       let goes = low_goes i.negative i.size t.token.piece (pieces t.more) (integer_pieces j ++ pieces u.3.rest) all in
       let below : integer_value j <ℤ integer_value i = subst (λ (z : ℤ). z <ℤ integer_value i) u.2.2 (subst (λ (z : ℤ). hi.0 <ℤ z) o.2.2 (lt_true hi.0 lo.0 e)) in
-      subst (λ (l : Lexeme). Goal (Err (fault_at EmptyRange l.from))) (sym t.shows)
-      (Fails-one p bytes above true front at ts t EmptyRange (record {
+      subst (λ (l : Lexeme). Goal (Err (fault_at EmptyRange l.from))) (sym t.shows) (
+        Fails-one p bytes above true front at ts t EmptyRange (record {
           stands = (x, starts, record { lo = i; hi = j; more = pieces u.3.rest; written = all ∙ sym (append_assoc (integer_pieces i) (integer_pieces j) (pieces u.3.rest)); lo_fits = o.2.3; hi_fits = u.2.3; empty = below });
           least = late_rank above true front low goes.0 t.token.piece (pieces t.more) here (var_room above front t.token.piece some) goes.1 (λ l no. cc)
-            (λ n is big. not_too_large front n (pieces t.more) here.kind (let same = low_small i.negative i.size t.token.piece (pieces t.more) (integer_pieces j ++ pieces u.3.rest) all n is in subst (λ (m : ℕ). m ≤ 2 ^ 31) (sym same) o.2.3) big)
-            (λ y is no. absurd (cc))
-            (λ y is no. let f : var ∷ name x ∷ [] ≡ var ∷ [] = sym starts ∙ no in absurd (cc));
-        }), inr refl)
+              (λ n is big. not_too_large front n (pieces t.more) here.kind (let same = low_small i.negative i.size t.token.piece (pieces t.more) (integer_pieces j ++ pieces u.3.rest) all n is in subst (λ (m : ℕ). m ≤ 2 ^ 31) (sym same) o.2.3) big)
+              (λ y is no. absurd (cc))
+              (λ y is no. let f : var ∷ name x ∷ [] ≡ var ∷ [] = sym starts ∙ no in absurd (cc));
+        }),
+        inr refl,
+      )
 
   -- the range isn't empty
   proper_out : (lo hi : ℤ × ℕ) → integer_at p bytes at ≡ Ok lo → integer_at p bytes lo.1 ≡ Ok hi → (o : Outcome p bytes above true front ts (IsIntegerAt high) (Ok lo)) → Outcome p bytes above true (front ++ o.0) o.3.rest (IsIntegerAt var_end) (Ok hi) → int_lt hi.0 lo.0 ≡ false → Goal (ends_with lo.0 hi.0 hi.1)
@@ -239,13 +252,13 @@ module _ {X : Type 0} (p : Bool) (bytes : List ℕ) (above : List PlainLine) (fr
       let t = token_of p bytes hi.1 u.3.rest u.3.there in
       let not_empty : IsEmptyRange (pieces ts) → ⊥ = not_empty_range p bytes at ts are lo hi e1 e2 e in
       elim (ends_with lo.0 hi.0 hi.1) as (λ r. LineOut above front ts (λ y ps. IsRange lo.0 hi.0 ps × (y ≡ value lo.0 hi.0)) r → Goal r) [
-        Ok y ↦ λ h. (lo.0, hi.0, h.0.1, h.0.0, lt_false hi.0 lo.0 e, h.1, not_empty)
+        | Ok y ↦ λ h. (lo.0, hi.0, h.0.1, h.0.0, lt_false hi.0 lo.0 e, h.1, not_empty)
         | Err f ↦ λ h. (h, inl not_empty)
       ]
       (LineOut-behind p bytes above true front at ts (λ y ps. IsRange lo.0 hi.0 ps × (y ≡ value lo.0 hi.0)) lo.1 o.1 o.0 _ o.3
-        (LineOut-behind p bytes above true (front ++ o.0) lo.1 o.3.rest (λ y ps. IsRange lo.0 hi.0 (o.0 ++ ps) × (y ≡ value lo.0 hi.0)) hi.1 u.1 u.0 _ u.3
-          (end_out p bytes above true ((front ++ o.0) ++ u.0) hi.1 u.3.rest t (var_room above ((front ++ o.0) ++ u.0) t.token.piece (λ f. some (left-nil front o.0 (left-nil (front ++ o.0) u.0 f)))) var_end here3 refl (λ no. other_end t.token.piece no) (λ l no. cc) (λ y ps. IsRange lo.0 hi.0 (o.0 ++ (u.0 ++ ps)) × (y ≡ value lo.0 hi.0)) (value lo.0 hi.0)
-            ((o.2.0, u.2.0, ap (λ (qs : List Piece). qs ++ (u.0 ++ line_end ∷ [])) o.2.1 ∙ ap (λ (qs : List Piece). integer_pieces o.2.0 ++ (qs ++ line_end ∷ [])) u.2.1, o.2.2, u.2.2, o.2.3, u.2.3), refl))))
+      (LineOut-behind p bytes above true (front ++ o.0) lo.1 o.3.rest (λ y ps. IsRange lo.0 hi.0 (o.0 ++ ps) × (y ≡ value lo.0 hi.0)) hi.1 u.1 u.0 _ u.3
+      (end_out p bytes above true ((front ++ o.0) ++ u.0) hi.1 u.3.rest t (var_room above ((front ++ o.0) ++ u.0) t.token.piece (λ f. some (left-nil front o.0 (left-nil (front ++ o.0) u.0 f)))) var_end here3 refl (λ no. other_end t.token.piece no) (λ l no. cc) (λ y ps. IsRange lo.0 hi.0 (o.0 ++ (u.0 ++ ps)) × (y ≡ value lo.0 hi.0)) (value lo.0 hi.0)
+      ((o.2.0, u.2.0, ap (λ (qs : List Piece). qs ++ (u.0 ++ line_end ∷ [])) o.2.1 ∙ ap (λ (qs : List Piece). integer_pieces o.2.0 ++ (qs ++ line_end ∷ [])) u.2.1, o.2.2, u.2.2, o.2.3, u.2.3), refl))))
 
   first_fails : (f : Fault) → integer_at p bytes at ≡ Err f → IsEmptyRange (pieces ts) → ⊥
   first_fails f e h =
@@ -265,7 +278,7 @@ module _ {X : Type 0} (p : Bool) (bytes : List ℕ) (above : List PlainLine) (fr
   second_out lo e1 o (Err f) e2 u = (Fails-behind p bytes above true front at ts lo.1 o.1 o.0 f o.3 u, inl (second_fails lo f e1 e2))
   second_out lo e1 o (Ok hi) e2 u =
       elim (int_lt hi.0 lo.0) as (λ b. int_lt hi.0 lo.0 ≡ b → Goal (cond b (Err (fault_at EmptyRange (lexeme_at p bytes at).from)) (ends_with lo.0 hi.0 hi.1))) [
-        true ↦ λ e. empty_out lo hi o u e
+        | true ↦ λ e. empty_out lo hi o u e
         | false ↦ λ e. proper_out lo hi e1 e2 o u e
       ] refl
 
@@ -301,22 +314,24 @@ declaration_rest : (p : Bool) (bytes : List ℕ) (above : List PlainLine) (at : 
 declaration_rest p bytes above at ts d o (Ok y) h =
     let x = o.2.0 in
     let all : pieces ts ≡ name x ∷ pieces o.3.rest =
-      ap pieces o.3.split ∙ map-append (λ (t : PlainToken). t.piece) o.3.used o.3.rest ∙ ap (λ (qs : List Piece). qs ++ pieces o.3.rest) (o.3.are ∙ o.2.1) in
+    ap pieces o.3.split ∙ map-append (λ (t : PlainToken). t.piece) o.3.used o.3.rest ∙ ap (λ (qs : List Piece). qs ++ pieces o.3.rest) (o.3.are ∙ o.2.1) in
     let passes = LineOut-behind p bytes above true (var ∷ []) at ts (λ (_ : Unit {0}) (_ : List Piece). Unit {0}) d.1 o.1 o.0 (Ok tt) o.3 (tt, h.5) in
-    let value : y ≡ (d.0, d.1, h.0, h.1) = h.2 in
-    (subst (λ (z : ℕ × ℕ × ℤ × ℤ). IsDeclared bytes (declared_names above) z (pieces ts)) (sym value) (x, pieces o.3.rest, all, o.2.2, o.2.3, h.3, h.4, o.2.5),
-     passes.1,
-     λ z qs e. λ empty. h.6 (subst (λ (rs : List Piece). IsEmptyRange rs) (tail_is x z (pieces ts) (pieces o.3.rest) qs all e) empty))
+    let value : y ≡ (d.0, d.1, h.0, h.1) = h.2 in (
+      subst (λ (z : ℕ × ℕ × ℤ × ℤ). IsDeclared bytes (declared_names above) z (pieces ts)) (sym value) (x, pieces o.3.rest, all, o.2.2, o.2.3, h.3, h.4, o.2.5),
+      passes.1,
+      λ z qs e. λ empty. h.6 (subst (λ (rs : List Piece). IsEmptyRange rs) (tail_is x z (pieces ts) (pieces o.3.rest) qs all e) empty),
+    )
 declaration_rest p bytes above at ts d o (Err f) h =
     let x = o.2.0 in
     let all : pieces ts ≡ name x ∷ pieces o.3.rest =
-      ap pieces o.3.split ∙ map-append (λ (t : PlainToken). t.piece) o.3.used o.3.rest ∙ ap (λ (qs : List Piece). qs ++ pieces o.3.rest) (o.3.are ∙ o.2.1) in
-    let one : length o.3.used ≡ 1 = sym (length-map o.3.used (λ (t : PlainToken). t.piece)) ∙ ap length (o.3.are ∙ o.2.1) in
-    (Fails-behind p bytes above true (var ∷ []) at ts d.1 o.1 o.0 f o.3 h.0,
-     elim h.1 [
-       inl none ↦ inl (λ z qs e. λ empty. none (subst (λ (rs : List Piece). IsEmptyRange rs) (tail_is x z (pieces ts) (pieces o.3.rest) qs all e) empty))
-       | inr nil ↦ inr (let count : length (o.3.used ++ h.0.used) ≡ 1 = ap (λ (us : List PlainToken). length (o.3.used ++ us)) nil ∙ ap length (append-nil o.3.used) ∙ one in omega arith)
-     ])
+    ap pieces o.3.split ∙ map-append (λ (t : PlainToken). t.piece) o.3.used o.3.rest ∙ ap (λ (qs : List Piece). qs ++ pieces o.3.rest) (o.3.are ∙ o.2.1) in
+    let one : length o.3.used ≡ 1 = sym (length-map o.3.used (λ (t : PlainToken). t.piece)) ∙ ap length (o.3.are ∙ o.2.1) in (
+      Fails-behind p bytes above true (var ∷ []) at ts d.1 o.1 o.0 f o.3 h.0,
+      elim h.1 [
+        | inl none ↦ inl (λ z qs e. λ empty. none (subst (λ (rs : List Piece). IsEmptyRange rs) (tail_is x z (pieces ts) (pieces o.3.rest) qs all e) empty))
+        | inr nil ↦ inr (let count : length (o.3.used ++ h.0.used) ≡ 1 = ap (λ (us : List PlainToken). length (o.3.used ++ us)) nil ∙ ap length (append-nil o.3.used) ∙ one in omega arith)
+      ],
+    )
 
 declaration_by : (p : Bool) (bytes : List ℕ) (above : List PlainLine) (at : ℕ) (ts : List PlainToken) (r : Result (ℕ × ℕ) Fault) → FreeNameOut p bytes above ts r → DeclarationOut bytes above ts (r >>= λ name. range_at p bytes name.1 >>= λ range. end_at p bytes range.2 >>= λ _. Ok (name.0, name.1, range.0, range.1))
 declaration_by p bytes above at ts (Err f) o = (o.0, inr (let nil : length o.0.used ≡ 0 = ap length o.1 in omega arith))

@@ -137,7 +137,10 @@ impl Draft {
 fn begins_atom(class: Class) -> bool
     ensures { result ≡ begins_atom_class class }
 {
-    !matches!(class, Class::Var | Class::Word | Class::Bad | Class::LineEnd)
+    !matches!(
+        class,
+        Class::Var | Class::Word | Class::Bad | Class::LineEnd
+    )
 }
 
 /// The fault where a query has all the comparisons that it may have.

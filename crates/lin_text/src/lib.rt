@@ -15,6 +15,8 @@ mod run;
 mod shape;
 mod side;
 mod small;
+#[cfg(test)]
+mod tests;
 mod token;
 mod write;
 

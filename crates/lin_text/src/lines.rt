@@ -57,7 +57,10 @@ pub fn next_line(bytes: &[u8], at: usize) -> usize
 pub fn line_number(bytes: &[u8], at: usize) -> u64
     ensures { result ≡ line_number bytes.now at }
 {
-    1 + bytes[..at.min(bytes.len())].iter().filter(|byte| is_feed(**byte)).count() as u64
+    1 + bytes[..at.min(bytes.len())]
+        .iter()
+        .filter(|byte| is_feed(**byte))
+        .count() as u64
 }
 
 /// How many bytes stand on the line before the place, and 1.

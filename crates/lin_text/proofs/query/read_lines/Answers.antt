@@ -9,8 +9,8 @@ pub loop-at-init : goal.loop-at-init
 loop-at-init c = record {
   within = c.first_line-at.ensures.within;
   read =
-    subst (λ (at : ℕ). ReadTo c.args.in_proof c.args.bytes.now c.args.start at c.new-query.result) (sym c.first_line-at.ensures.start)
-    (subst (λ (q : PlainCondition). ReadTo c.args.in_proof c.args.bytes.now c.args.start (line_from c.args.bytes.now c.args.start) q) (sym c.new-query.ensures) (read_none c.args.in_proof c.args.bytes.now c.args.start));
+      subst (λ (at : ℕ). ReadTo c.args.in_proof c.args.bytes.now c.args.start at c.new-query.result) (sym c.first_line-at.ensures.start)
+      (subst (λ (q : PlainCondition). ReadTo c.args.in_proof c.args.bytes.now c.args.start (line_from c.args.bytes.now c.args.start) q) (sym c.new-query.ensures) (read_none c.args.in_proof c.args.bytes.now c.args.start));
 }
 
 pub into_condition-requires-clause-in_range : goal.into_condition-requires-clause-in_range
@@ -20,7 +20,7 @@ pub returns-then-is_word-clause-read : goal.returns-then-is_word-clause-read
 returns-then-is_word-clause-read c =
     subst (λ (q : PlainCondition). Spells c.args.in_proof c.args.bytes.now c.args.start q c.loop-at.at) (sym c.into_condition.ensures.value)
     (at_word c.args.in_proof c.args.bytes.now c.args.start c.loop-at.at c.loop-at.query c.loop-at.invariant.read c.loop-at-test.true c.next_lexeme-first.result c.next_lexeme-first.ensures.shown (sym c.is_word.ensures ∙ c.if-is_word.true)
-      (subst (λ (q : PlainCondition). Fits q.vars q.atoms) c.into_condition.ensures.value c.into_condition.ensures.fits))
+    (subst (λ (q : PlainCondition). Fits q.vars q.atoms) c.into_condition.ensures.value c.into_condition.ensures.fits))
 
 pub returns-in_err-query-clause-fault : goal.returns-in_err-query-clause-fault
 returns-in_err-query-clause-fault c =
@@ -31,8 +31,8 @@ pub loop-at-preserved : goal.loop-at-preserved
 loop-at-preserved c = record {
   within = c.first_line-at-in-loop-at.ensures.within;
   read =
-    subst (λ (at : ℕ). ReadTo c.args.in_proof c.args.bytes.now c.args.start at c.in_ok-query.query) (sym (c.first_line-at-in-loop-at.ensures.start ∙ ap (line_from c.args.bytes.now) c.line_below.ensures.start))
-    (at_line c.args.in_proof c.args.bytes.now c.args.start c.loop-at.at c.loop-at.query c.loop-at.invariant.read c.loop-at-test.true c.next_lexeme-first.result c.next_lexeme-first.ensures.shown (sym c.is_word.ensures ∙ c.if-is_word.false) c.in_ok-query.query c.in_ok-query.ensures);
+      subst (λ (at : ℕ). ReadTo c.args.in_proof c.args.bytes.now c.args.start at c.in_ok-query.query) (sym (c.first_line-at-in-loop-at.ensures.start ∙ ap (line_from c.args.bytes.now) c.line_below.ensures.start))
+      (at_line c.args.in_proof c.args.bytes.now c.args.start c.loop-at.at c.loop-at.query c.loop-at.invariant.read c.loop-at-test.true c.next_lexeme-first.result c.next_lexeme-first.ensures.shown (sym c.is_word.ensures ∙ c.if-is_word.false) c.in_ok-query.query c.in_ok-query.ensures);
 }
 
 pub into_condition-requires-2-clause-in_range : goal.into_condition-requires-2-clause-in_range
@@ -42,5 +42,5 @@ pub returns-clause-read : goal.returns-clause-read
 returns-clause-read c =
     subst (λ (q : PlainCondition). Spells c.args.in_proof c.args.bytes.now c.args.start q c.loop-at.at) (sym c.into_condition-2.ensures.value)
     (spelled_at_end c.args.in_proof c.args.bytes.now c.args.start c.loop-at.at c.loop-at.query c.loop-at.invariant.read
-      (subst (λ (q : PlainCondition). Fits q.vars q.atoms) c.into_condition-2.ensures.value c.into_condition-2.ensures.fits)
-      (omega (arith, c.loop-at.invariant.within, c.loop-at-test.false)))
+    (subst (λ (q : PlainCondition). Fits q.vars q.atoms) c.into_condition-2.ensures.value c.into_condition-2.ensures.fits)
+    (omega (arith, c.loop-at.invariant.within, c.loop-at-test.false)))

@@ -22,8 +22,8 @@ loop-terms-preserved c = record {
   within = omega arith;
   few = omega (arith, c.in_ok-push.ensures.len);
   same =
-    behind-next c.args.in_proof c.args.bytes.now c.args.names.now c.loop-terms.subtracted c.loop-terms.at c.loop-terms.terms.items _ (vec_len c.loop-terms.terms) _ c.in_ok-term.term c.in_ok-term.to c.next_lexeme-joint.result _ (omega arith) (sym c.in_ok-term.ensures.exact) c.next_lexeme-joint.ensures.shown (sym c.is_joint.ensures ∙ c.if-not-is_joint.false) c.in_ok-push.ensures.items c.in_ok-push.ensures.len c.is_minus-subtracted.ensures
-    ∙ c.loop-terms.invariant.same;
+      behind-next c.args.in_proof c.args.bytes.now c.args.names.now c.loop-terms.subtracted c.loop-terms.at c.loop-terms.terms.items _ (vec_len c.loop-terms.terms) _ c.in_ok-term.term c.in_ok-term.to c.next_lexeme-joint.result _ (omega arith) (sym c.in_ok-term.ensures.exact) c.next_lexeme-joint.ensures.shown (sym c.is_joint.ensures ∙ c.if-not-is_joint.false) c.in_ok-push.ensures.items c.in_ok-push.ensures.len c.is_minus-subtracted.ensures
+      ∙ c.loop-terms.invariant.same;
 }
 
 pub returns-clause-exact : goal.returns-clause-exact

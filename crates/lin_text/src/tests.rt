@@ -1,0 +1,166 @@
+//! Texts of queries with the places of their faults, reckoned by hand.
+
+use crate::fault::TextKind;
+use crate::query::read_query;
+use std::alloc::Global;
+use std::process::Abort;
+use std::test::Fail;
+
+/// Two lines, each with a line feed: `var x 0 9` and the given one.
+fn expect_second(
+    rt: &impl Abort,
+    alloc: Global,
+    line: &str,
+    column: u64,
+    kind: TextKind,
+) -> Result<(), Fail> {
+    let text = format!(in alloc; "var x 0 9\n{line}\n")?;
+    expect(rt, alloc, text.as_str(), 2, column, kind)
+}
+
+/// The fault of a text, or none where `kind` is `NoMemory`.
+fn expect(
+    rt: &impl Abort,
+    alloc: Global,
+    text: &str,
+    line: u64,
+    column: u64,
+    kind: TextKind,
+) -> Result<(), Fail> {
+    match read_query(alloc, text.as_bytes(), 0, false) {
+        Ok(_) => assert_eq!(rt; kind, TextKind::NoMemory, "read: {text}"),
+        Err(fault) => {
+            assert_eq!(rt; fault.kind, kind, "{text}");
+            assert_eq!(rt; fault.line, line, "{text}");
+            assert_eq!(rt; fault.column, column, "{text}");
+        }
+    }
+    Ok(())
+}
+
+#[test]
+fn faults_stand_at_their_places(rt: HostRuntime) -> Result<(), Fail> {
+    let second = [
+        ("x < = 3", 5, TextKind::Syntax),
+        ("x <== 3", 5, TextKind::Syntax),
+        ("x = = 3", 5, TextKind::Syntax),
+        ("2*x*3", 4, TextKind::Syntax),
+        ("- - x <= 1", 3, TextKind::Syntax),
+        ("1x <= 2", 2, TextKind::Syntax),
+        ("x@", 2, TextKind::Token),
+        ("y@", 1, TextKind::UnknownName),
+        (".x <= 1", 1, TextKind::Token),
+        ("x <= 0001099511627777", 6, TextKind::NumberTooLarge),
+        ("0002147483649 * x <= 1", 1, TextKind::NumberTooLarge),
+        ("2*3000000000*x", 3, TextKind::Syntax),
+        ("x 3000000000*x", 3, TextKind::Syntax),
+        ("x <= 3000000000 *", 6, TextKind::NumberTooLarge),
+        ("x <=\r", 6, TextKind::Syntax),
+        ("x <= ", 6, TextKind::Syntax),
+        ("x <= end", 6, TextKind::Syntax),
+        ("x + var <= 1", 5, TextKind::Syntax),
+        ("<= 3", 1, TextKind::Syntax),
+        ("+ x <= 1", 1, TextKind::Syntax),
+        ("y <= z", 1, TextKind::UnknownName),
+        ("x <= 3 # c", 8, TextKind::Token),
+        ("x <= 3\ry <= 4", 8, TextKind::Syntax),
+        ("varx 0 1", 1, TextKind::UnknownName),
+        ("end. <= 1", 1, TextKind::UnknownName),
+        ("x = ! 3", 5, TextKind::Token),
+        ("x=!=3", 3, TextKind::Syntax),
+        ("x <= 3 <= 4", 8, TextKind::Syntax),
+        ("x", 2, TextKind::Syntax),
+        ("var x 5 3", 5, TextKind::NameTwice),
+        ("var y 5 3", 7, TextKind::EmptyRange),
+        ("var y 5 3 9", 7, TextKind::EmptyRange),
+        ("var y 5 3@", 7, TextKind::EmptyRange),
+        ("var y 5 3abc", 7, TextKind::EmptyRange),
+        ("var y 1-2", 7, TextKind::EmptyRange),
+        ("var y -3 -5", 7, TextKind::EmptyRange),
+        ("var y 5 -3000000000", 10, TextKind::NumberTooLarge),
+        ("var y 3000000000 1", 7, TextKind::NumberTooLarge),
+        ("var y +5 9", 7, TextKind::Syntax),
+        ("var y --5 1", 8, TextKind::Syntax),
+        ("var y 0", 8, TextKind::Syntax),
+        ("var y", 6, TextKind::Syntax),
+        ("var", 4, TextKind::Syntax),
+        ("var end 0 1", 5, TextKind::Syntax),
+        ("var var 0 1", 5, TextKind::Syntax),
+        ("var y 0 1 2", 11, TextKind::Syntax),
+        ("var 3000000000 1 2", 5, TextKind::Syntax),
+        ("var y 5 @", 9, TextKind::Token),
+        ("x<=3", 0, TextKind::NoMemory),
+        ("x - -3 == 0*x", 0, TextKind::NoMemory),
+        ("x <= 0001099511627776", 0, TextKind::NoMemory),
+        ("x <= 3000000000", 0, TextKind::NoMemory),
+        ("var y -2147483648 02147483648", 0, TextKind::NoMemory),
+        ("var core 0 1", 0, TextKind::NoMemory),
+        (" push y", 0, TextKind::NoMemory),
+        (" \t\r# \u{e9} @", 0, TextKind::NoMemory),
+    ];
+    for (line, column, kind) in second {
+        expect_second(&rt, rt.alloc(), line, column, kind)?;
+    }
+    Ok(())
+}
+
+/// The first so many lines `var v0 0 1`, `var v1 0 1` and so on, each with a line feed.
+fn variables(alloc: Global, count: usize) -> Result<String, Fail> {
+    let mut text = String::new(alloc);
+    for number in 0..count {
+        let line = format!(in alloc; "var v{number} 0 1\n")?;
+        text.push_str(line.as_str())?;
+    }
+    Ok(text)
+}
+
+/// The piece so many times.
+fn repeated(alloc: Global, piece: &str, count: usize) -> Result<String, Fail> {
+    let mut text = String::new(alloc);
+    for _ in 0..count {
+        text.push_str(piece)?;
+    }
+    Ok(text)
+}
+
+#[test]
+fn limits_are_met_exactly(rt: HostRuntime) -> Result<(), Fail> {
+    let alloc = rt.alloc();
+    let text = variables(alloc, 64)?;
+    expect(&rt, alloc, text.as_str(), 0, 0, TextKind::NoMemory)?;
+    let text = variables(alloc, 65)?;
+    expect(&rt, alloc, text.as_str(), 65, 1, TextKind::TooManyVars)?;
+
+    let lines = repeated(alloc, "x <= 3\n", 256)?;
+    let text = format!(in alloc; "var x 0 9\n{}", lines.as_str())?;
+    expect(&rt, alloc, text.as_str(), 0, 0, TextKind::NoMemory)?;
+    let text = format!(in alloc; "{}3000000000*q <= 1\n", text.as_str())?;
+    expect(&rt, alloc, text.as_str(), 258, 1, TextKind::TooManyAtoms)?;
+
+    let terms = repeated(alloc, "x + ", 63)?;
+    let text = format!(in alloc; "{}x <= 1", terms.as_str())?;
+    expect_second(&rt, alloc, text.as_str(), 0, TextKind::NoMemory)?;
+    let text = format!(in alloc; "{}x + x <= 1", terms.as_str())?;
+    expect_second(&rt, alloc, text.as_str(), 257, TextKind::TooManyTerms)?;
+    let text = format!(in alloc; "1 <= {}x + + x", terms.as_str())?;
+    expect_second(&rt, alloc, text.as_str(), 262, TextKind::Syntax)?;
+
+    let name = repeated(alloc, "n", 64)?;
+    let text = format!(in alloc; "{} <= 1", name.as_str())?;
+    expect_second(&rt, alloc, text.as_str(), 1, TextKind::UnknownName)?;
+    let text = format!(in alloc; "n{} <= 1", name.as_str())?;
+    expect_second(&rt, alloc, text.as_str(), 1, TextKind::Token)
+}
+
+#[test]
+fn words_end_a_query(rt: HostRuntime) -> Result<(), Fail> {
+    let read = read_query(rt.alloc(), b"var core 0 1\n end", 0, false);
+    assert_eq!(rt; read.map(|read| read.1).ok(), Some(13));
+    let read = read_query(rt.alloc(), b"var x 0 1\n core", 0, true);
+    assert_eq!(rt; read.map(|read| read.1).ok(), Some(10));
+    let read = read_query(rt.alloc(), b"var core 0 1", 0, true);
+    assert_eq!(rt; read.map(|read| read.1).is_err(), true);
+    let read = read_query(rt.alloc(), b"", 0, false);
+    assert_eq!(rt; read.map(|read| read.1).ok(), Some(0));
+    Ok(())
+}
