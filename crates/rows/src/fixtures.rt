@@ -1,7 +1,8 @@
 //! What the tests of sessions share.
-use green_cli::{Outcome, green};
+use green_cli::{Outcome, Report, green};
 use outside::{MemSink, MemSource, NoDisk, NoGate, Source};
 use std::alloc::{AllocError, Global};
+use std::process::Abort;
 use std::test::Fail;
 
 /// A session with one model.
@@ -9,13 +10,6 @@ pub const SESSION: &str = "green 1\nexecutor\nquery\nvar x 3 3\nend\n";
 
 /// The answers to it.
 pub const ANSWERS: &str = "green answers 1\nexecutor\nsat x=3 [new 0]\nend\n";
-
-/// What a call came to: its status, and what the sink took.
-#[derive(Drop)]
-pub struct End {
-    pub status: u8,
-    pub text: String,
-}
 
 /// A source of this text that fails at these calls.
 pub fn source_of(alloc: Global, text: &str, failing: &[u64]) -> Result<MemSource, AllocError> {
@@ -31,24 +25,37 @@ pub fn words_of(alloc: Global, words: &[&str]) -> Result<Vec<String>, AllocError
     Ok(all)
 }
 
-/// Calls `green` with a sink that fails at these calls.
+/// Calls `green` on no disks.
 pub fn run<S: Source>(
     alloc: Global,
     words: &[&str],
     source: &mut S,
-    failing: &[u64],
-) -> Result<End, Fail> {
+    sink: &mut MemSink,
+) -> Result<(u8, Report), AllocError> {
     let words = words_of(alloc, words)?;
-    let mut sink = MemSink::new(alloc, failing.to_vec(alloc)?);
-    let Outcome { status, .. } = green(
+    let Outcome { status, report, .. } = green(
         alloc,
         words.as_slice(),
         source,
-        &mut sink,
+        sink,
         NoDisk::new(),
         NoDisk::new(),
         &NoGate,
     );
-    let text = String::from_utf8(sink.bytes().to_vec(alloc)?)?;
-    Ok(End { status, text })
+    Ok((status, report))
+}
+
+/// Runs the words over a sink that fails at these calls, and expects this status and this text in the sink.
+pub fn expect<S: Source>(
+    rt: &(impl Abort + AllocGlobal),
+    words: &[&str],
+    source: &mut S,
+    failing: &[u64],
+    want: (u8, &str),
+) -> Result<(), Fail> {
+    let alloc = rt.alloc();
+    let mut sink = MemSink::new(alloc, failing.to_vec(alloc)?);
+    let (status, _) = run(alloc, words, source, &mut sink)?;
+    assert_eq!(rt; (status, str::from_utf8(sink.bytes())?), want);
+    Ok(())
 }

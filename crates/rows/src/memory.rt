@@ -2,7 +2,7 @@
 ghost use Rattle.std.specs.Prelude.{◌≤◌, ◌^◌, unsigned_abs};
 
 use crate::fixtures::{ANSWERS, SESSION, source_of, words_of};
-use green_cli::{Command, Outcome, WordsFault, read_words, run_once};
+use green_cli::{Command, Outcome, read_words, run_once};
 use lin_model::{Atom, Cmp, Condition, Expr, Name, Term, Var, fits, is_name};
 use lin_text::{push_integer, push_number, push_str, read_small, write_query};
 use outside::{MemSink, NoDisk};
@@ -13,15 +13,12 @@ use std::test::Fail;
 #[test]
 fn words_are_read_and_done(rt: HostRuntime) -> Result<(), Fail> {
     let alloc = rt.alloc();
-    assert_eq!(rt; read_words(&[]), Err(WordsFault::Usage));
     let words = words_of(alloc, &["solve"])?;
-    let Ok(command) = read_words(words.as_slice()) else {
-        return Err("refused")?;
-    };
+    let command = read_words(words.as_slice()).map_err(|_| "refused")?;
     let Command::Solve { budget } = command;
     assert_eq!(rt; budget.splits(), 4_096);
-    let mut source = source_of(alloc, SESSION, &[])?;
     let mut sink = MemSink::new(alloc, Vec::new(alloc));
+    let mut source = source_of(alloc, SESSION, &[])?;
     let Outcome { status, .. } = run_once(
         alloc,
         &command,
@@ -30,31 +27,44 @@ fn words_are_read_and_done(rt: HostRuntime) -> Result<(), Fail> {
         NoDisk::new(),
         NoDisk::new(),
     );
-    assert_eq!(rt; status, 0);
-    assert_eq!(rt; sink.bytes(), ANSWERS.as_bytes());
+    assert_eq!(rt; (status, sink.bytes()), (0, ANSWERS.as_bytes()));
     Ok(())
 }
 
 #[test]
-fn a_small_session_is_read_and_its_query_written(rt: HostRuntime) -> Result<(), Fail> {
+fn texts_are_read_and_written(rt: HostRuntime) -> Result<(), Fail> {
     let alloc = rt.alloc();
-    let Some(query) = read_small(alloc, SESSION.as_bytes())? else {
-        return Err("not read")?;
-    };
+    let query = read_small(alloc, SESSION.as_bytes())?.ok_or("not read")?;
     assert_eq!(rt;
         write_query(alloc, &query)?.as_slice(),
         b"var x 3 3\n".as_slice()
     );
-    assert!(rt; read_small(alloc, b"end\n")?.is_none());
+    let mut out = write_query(alloc, &example(&rt)?)?;
+    push_str(&mut out, "x ")?;
+    push_number(&mut out, u64::MAX)?;
+    push_integer(&mut out, i64::MIN)?;
+    assert_eq!(rt; str::from_utf8(&out)?, EXAMPLE);
     Ok(())
 }
 
-#[test]
-fn a_condition_is_written_plainly_and_holds_as_written(rt: HostRuntime) -> Result<(), Fail> {
+/// The example, and then a word and two numbers.
+const EXAMPLE: &str = "var a 0 99
+var b 0 99
+var c 0 99
+4*a + 4*b <= 213
+b - c >= 95
+c != 51
+a != c
+-a - 3*b + 7 < -4 + 0*c
+0 - 8 > -2*a
+b + b = 198
+x 18446744073709551615-9223372036854775808";
+
+fn example(rt: &(impl Abort + AllocGlobal)) -> Result<Condition, AllocError> {
     let alloc = rt.alloc();
     let mut vars = Vec::new(alloc);
     for name in ["a", "b", "c"] {
-        vars.push(var_of(&rt, alloc, name, 0, 99)?)?;
+        vars.push(var_of(rt, name)?)?;
     }
     let (a, b, c) = (Some(0), Some(1), Some(2));
     let mut atoms = Vec::new(alloc);
@@ -75,48 +85,34 @@ fn a_condition_is_written_plainly_and_holds_as_written(rt: HostRuntime) -> Resul
         (&[(0, None), (-8, None)], Cmp::Gt, &[(-2, a)]),
         (&[(1, b), (1, b)], Cmp::Eq, &[(198, None)]),
     ] {
-        let left = side_of(&rt, alloc, left)?;
-        let right = side_of(&rt, alloc, right)?;
-        atoms.push(Atom { left, cmp, right })?;
+        atoms.push(atom_of(rt, left, cmp, right)?)?;
     }
     assert!(rt; fits(vars.as_slice(), atoms.as_slice()));
-    let condition = Condition::new(vars, atoms);
-
-    let text = String::from_utf8(write_query(alloc, &condition)?)?;
-    assert_eq!(rt;
-        text.as_str(),
-        "var a 0 99\nvar b 0 99\nvar c 0 99\n4*a + 4*b <= 213\nb - c >= 95\nc != 51\na != c\n-a - 3*b + 7 < -4 + 0*c\n0 - 8 > -2*a\nb + b = 198\n"
-    );
-    Ok(())
+    Ok(Condition::new(vars, atoms))
 }
 
-#[test]
-fn numbers_and_words_are_added_to_a_text(rt: HostRuntime) -> Result<(), Fail> {
-    let mut out = Vec::new(rt.alloc());
-    push_str(&mut out, "x ")?;
-    push_number(&mut out, u64::MAX)?;
-    push_integer(&mut out, i64::MIN)?;
-    push_integer(&mut out, 0)?;
-    assert_eq!(rt;
-        out.as_slice(),
-        b"x 18446744073709551615-92233720368547758080".as_slice()
-    );
-    Ok(())
-}
-
-fn var_of(rt: &impl Abort, alloc: Global, name: &str, lo: i64, hi: i64) -> Result<Var, AllocError> {
+/// A variable of this name with the bounds 0 and 99.
+fn var_of(rt: &(impl Abort + AllocGlobal), name: &str) -> Result<Var, AllocError> {
     assert!(rt; is_name(name.as_bytes()));
-    assert!(rt; 0 <= lo && lo <= hi && hi <= 99);
-    let name = Name::new(name.as_bytes().to_vec(alloc)?);
-    Ok(Var::new(name, lo, hi))
+    let name = Name::new(name.as_bytes().to_vec(rt.alloc())?);
+    Ok(Var::new(name, 0, 99))
 }
 
-fn side_of(
-    rt: &impl Abort,
-    alloc: Global,
-    terms: &[(i64, Option<u32>)],
-) -> Result<Expr, AllocError> {
-    let mut side = Vec::new(alloc);
+type Terms<'a> = &'a [(i64, Option<u32>)];
+
+fn atom_of(
+    rt: &(impl Abort + AllocGlobal),
+    left: Terms,
+    cmp: Cmp,
+    right: Terms,
+) -> Result<Atom, AllocError> {
+    let left = side_of(rt, left)?;
+    let right = side_of(rt, right)?;
+    Ok(Atom { left, cmp, right })
+}
+
+fn side_of(rt: &(impl Abort + AllocGlobal), terms: Terms) -> Result<Expr, AllocError> {
+    let mut side = Vec::new(rt.alloc());
     for (factor, var) in terms {
         assert!(rt; factor.unsigned_abs() <= 1_000);
         side.push(term_of(*factor, *var))?;
