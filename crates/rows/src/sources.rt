@@ -1,0 +1,43 @@
+//! Sources that only tests need. They never fail, and tell nothing of the bytes left.
+ghost use Rattle.std.specs.Prelude.{None};
+
+use outside::{Failed, Source};
+
+/// Gives this many zeros.
+#[derive(Drop)]
+pub struct Zeros(pub usize);
+
+impl Source for Zeros {
+    ghost left = { λ _. None };
+
+    ghost faults = { λ _. 0 };
+
+    fn read(&mut self, buf: &mut [u8]) -> Result<usize, Failed> {
+        let n = self.0.min(buf.len());
+        buf[..n].fill(0);
+        self.0 -= n;
+        Ok(n)
+    }
+}
+
+/// Gives the bytes of a text, at most one in each read.
+#[derive(Drop)]
+pub struct OneByOne<'a>(pub &'a [u8]);
+
+impl Source for OneByOne<'_> {
+    ghost left = { λ _. None };
+
+    ghost faults = { λ _. 0 };
+
+    fn read(&mut self, buf: &mut [u8]) -> Result<usize, Failed> {
+        let [place, ..] = buf else {
+            return Ok(0);
+        };
+        let [byte, rest @ ..] = self.0 else {
+            return Ok(0);
+        };
+        *place = *byte;
+        self.0 = rest;
+        Ok(1)
+    }
+}
