@@ -9,4 +9,6 @@ mod memory;
 #[cfg(test)]
 mod sessions;
 #[cfg(test)]
+mod small_queries;
+#[cfg(test)]
 mod sources;

@@ -189,11 +189,9 @@ fn what_is_no_small_session_is_left_for_later(rt: HostRuntime) -> Result<(), Fai
         "green 1\nexecutor\nquery\nvar x-y 3 3\nend\n",
         "green 1\nexecutor\nquery\nvar é 3 3\nend\n",
         "green 1\nexecutor\nquery\nvar a.b.c.d.e.f.g.h.a.b.c.d.e.f.g.h.a.b.c.d.e.f.g.h.a.b.c.d.e.f.g.h.i 3 3\nend\n",
-        // More than one variable, or another comparison than `<=`.
+        // No variable, or one name twice.
         "green 1\nexecutor\nquery\nend\n",
-        "green 1\nexecutor\nquery\nvar x 3 3\nvar y 3 3\nend\n",
         "green 1\nexecutor\nquery\nvar x 3 3\nvar x 3 3\nend\n",
-        "green 1\nexecutor\nquery\nvar x 0 9\nx >= 3\nend\n",
     ] {
         let mut source = source_of(rt.alloc(), text, &[])?;
         expect(&rt, &["solve"], &mut source, &[], (19, "fault later\n"))?;
