@@ -1,5 +1,5 @@
 //! Laws of the texts of conditions, each the contract of a function that does nothing.
-ghost use Rattle.lin_text.specs.Laws.{SpelledOnce, WrittenIsSpelled, WrittenIsSpelledWithin};
+ghost use Rattle.lin_text.specs.Laws.{SpelledHasNoFault, SpelledOnce, WrittenIsSpelled, WrittenIsSpelledWithin};
 
 /// What is written for a condition is spelled as that condition, in the sense of the grammar.
 pub fn written_is_spelled()
@@ -14,4 +14,9 @@ pub fn written_is_spelled_within()
 /// A text spells one condition at most from a place on, and up to one place.
 pub fn spelled_once()
     ensures { SpelledOnce }
+{}
+
+/// A text that spells a condition has no fault.
+pub fn spelled_has_no_fault()
+    ensures { SpelledHasNoFault }
 {}
