@@ -29,3 +29,9 @@ mod UniqueTokens
 mod UniqueSides
 mod UniqueTerms
 mod Unique
+mod NoFaultTokens
+mod NoFaultSides
+mod NoFaultLines
+mod NoFaultCompared
+mod NoFaultDeclared
+mod NoFault

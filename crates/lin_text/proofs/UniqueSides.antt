@@ -41,7 +41,7 @@ no_minus (multiple n x) more ps e = absurd (cc)
 no_minus (single x) more ps e = absurd (cc)
 
 -- an item
-item-once : (i j : Item) (more less : List Piece) → begins_times more ≡ false → begins_times less ≡ false → item_pieces i ++ more ≡ item_pieces j ++ less → (i ≡ j) × (more ≡ less)
+pub item-once : (i j : Item) (more less : List Piece) → begins_times more ≡ false → begins_times less ≡ false → item_pieces i ++ more ≡ item_pieces j ++ less → (i ≡ j) × (more ≡ less)
 item-once i j more less p q e = by_sign i.negative j.negative e
   where
     by_sign : (a b : Bool) → (sign a ++ quantity_pieces i.quantity) ++ more ≡ (sign b ++ quantity_pieces j.quantity) ++ less → (item_of a i.quantity ≡ item_of b j.quantity) × (more ≡ less)
@@ -56,12 +56,12 @@ item-once i j more less p q e = by_sign i.negative j.negative e
         (ap (λ (a : Quantity). record { negative = false; quantity = a }) same.0, same.1)
 
 -- a comparison, or the end of the line: what comes behind a side
-pub ends_side : List Piece → Bool
+unfoldable pub ends_side : List Piece → Bool
 ends_side (compare c ∷ ps) = true
 ends_side (line_end ∷ ps) = true
 ends_side _ = false
 
-no_times : (b : Bool) (ps more : List Piece) → begins_times ((joint b ∷ ps) ++ more) ≡ false
+pub no_times : (b : Bool) (ps more : List Piece) → begins_times ((joint b ∷ ps) ++ more) ≡ false
 no_times true ps more = refl
 no_times false ps more = refl
 
@@ -79,7 +79,7 @@ end_no_times (compare w ∷ ps) e = refl
 end_no_times (bad ∷ ps) e = refl
 end_no_times (line_end ∷ ps) e = refl
 
-later_no_times : (js : List Joined) (more : List Piece) → ends_side more ≡ true → begins_times (flat_map joined_pieces js ++ more) ≡ false
+pub later_no_times : (js : List Joined) (more : List Piece) → ends_side more ≡ true → begins_times (flat_map joined_pieces js ++ more) ≡ false
 later_no_times [] more e = end_no_times more e
 later_no_times (j ∷ js) more e = ap begins_times (append_assoc (joined_pieces j) (flat_map joined_pieces js) more) ∙ no_times j.subtracted (item_pieces j.item) (flat_map joined_pieces js ++ more)
 
@@ -88,7 +88,7 @@ unfolding ends_side
 joint_no_end true ps = refl
 joint_no_end false ps = refl
 
-no_joint : (b : Bool) (more ps : List Piece) → ends_side more ≡ true → more ≡ joint b ∷ ps → ⊥
+pub no_joint : (b : Bool) (more ps : List Piece) → ends_side more ≡ true → more ≡ joint b ∷ ps → ⊥
 no_joint b more ps ends e = let t : true ≡ false = sym ends ∙ (ap ends_side e ∙ joint_no_end b ps) in absurd (cc)
 
 joint-once : (a b : Bool) (ps qs : List Piece) → joint a ∷ ps ≡ joint b ∷ qs → (a ≡ b) × (ps ≡ qs)
@@ -97,7 +97,7 @@ joint-once true false ps qs e = absurd (cc)
 joint-once false true ps qs e = absurd (cc)
 joint-once false false ps qs e = (refl, cc)
 
-joined-once : (i j : Joined) (more less : List Piece) → begins_times more ≡ false → begins_times less ≡ false → joined_pieces i ++ more ≡ joined_pieces j ++ less → (i ≡ j) × (more ≡ less)
+pub joined-once : (i j : Joined) (more less : List Piece) → begins_times more ≡ false → begins_times less ≡ false → joined_pieces i ++ more ≡ joined_pieces j ++ less → (i ≡ j) × (more ≡ less)
 joined-once i j more less p q e =
     let signs = joint-once i.subtracted j.subtracted (item_pieces i.item ++ more) (item_pieces j.item ++ less) e in
     let same = item-once i.item j.item more less p q signs.1 in
@@ -140,10 +140,10 @@ seam xs ys zs us e = sym (append_assoc xs ys zs) ∙ e
 seams : (xs ys zs us vs : List Piece) → (xs ++ ys) ++ zs ≡ (us ++ vs) ++ zs → xs ++ (ys ++ zs) ≡ us ++ (vs ++ zs)
 seams xs ys zs us vs e = seam xs ys zs ((us ++ vs) ++ zs) e ∙ append_assoc us vs zs
 
-end : List Piece
+abbrev pub end : List Piece
 end = line_end ∷ []
 
-names-once : (x y : List ℕ) (ps qs : List Piece) → var ∷ name x ∷ ps ≡ var ∷ name y ∷ qs → (x ≡ y) × (ps ≡ qs)
+pub names-once : (x y : List ℕ) (ps qs : List Piece) → var ∷ name x ∷ ps ≡ var ∷ name y ∷ qs → (x ≡ y) × (ps ≡ qs)
 names-once x y ps qs e = (cc, cc)
 
 compare-once : (c d : Cmp) (ps qs : List Piece) → compare c ∷ ps ≡ compare d ∷ qs → (c ≡ d) × (ps ≡ qs)
@@ -151,7 +151,6 @@ compare-once c d ps qs e = (cc, cc)
 
 -- what the tokens of a declaration show
 pub declaration-once : (x y : List ℕ) (lo hi low high : Integer) → line_pieces (declaration x lo hi) ≡ line_pieces (declaration y low high) → (x ≡ y) × (lo ≡ low) × (hi ≡ high)
-unfolding end
 declaration-once x y lo hi low high e =
     let names = names-once x y ((integer_pieces lo ++ integer_pieces hi) ++ end) ((integer_pieces low ++ integer_pieces high) ++ end) e in
     let first = integer-once lo low (integer_pieces hi ++ end) (integer_pieces high ++ end) (seams (integer_pieces lo) (integer_pieces hi) end (integer_pieces low) (integer_pieces high) names.1) in
@@ -160,7 +159,7 @@ declaration-once x y lo hi low high e =
 
 -- what the tokens of a comparison show
 pub comparison-once : (left right a b : Side) (cmp c : Cmp) → line_pieces (comparison left cmp right) ≡ line_pieces (comparison a c b) → (left ≡ a) × (cmp ≡ c) × (right ≡ b)
-unfolding ends_side end
+unfolding ends_side
 comparison-once left right a b cmp c e =
     let first = side-once left a (compare cmp ∷ (side_pieces right ++ end)) (compare c ∷ (side_pieces b ++ end)) refl refl (seams (side_pieces left) (compare cmp ∷ side_pieces right) end (side_pieces a) (compare c ∷ side_pieces b) e) in
     let behind = compare-once cmp c (side_pieces right ++ end) (side_pieces b ++ end) first.1 in
@@ -169,7 +168,6 @@ comparison-once left right a b cmp c e =
 
 -- the tokens of a declaration are those of no comparison
 pub declares_or_compares : (x : List ℕ) (lo hi : Integer) (left right : Side) (cmp : Cmp) → line_pieces (declaration x lo hi) ≡ line_pieces (comparison left cmp right) → ⊥
-unfolding end
 declares_or_compares x lo hi left right cmp e =
     let t : true ≡ false = ap begins_variable e ∙ (ap begins_variable (append_assoc (side_pieces left) (compare cmp ∷ side_pieces right) end) ∙ side_no_var left (compare cmp ∷ (side_pieces right ++ end))) in
     absurd (cc)

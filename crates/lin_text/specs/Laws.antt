@@ -3,8 +3,8 @@ use Rattle.std.specs.Prelude.{◌≡◌, ℕ, ◌+◌, Bool, false, ◌⊎◌, L
 use Rattle.lin_model.specs.Conditions.{PlainCondition, IsCondition}
 use Rattle.lin_text.specs.Spelling.{condition_text}
 use Rattle.lin_text.specs.Pieces.{word, first_token}
-use Rattle.lin_text.specs.Queries.{Spells, HasFault}
 use Rattle.lin_text.specs.declared.fault.TextKind.{TextKind}
+use Rattle.lin_text.specs.Queries.{Spells, HasFault}
 
 -- the plain spelling of a condition is spelled as that condition, to its end
 abbrev pub WrittenIsSpelled : Type 0
@@ -26,4 +26,5 @@ SpelledOnce =
 
 -- a text that spells a condition has no fault
 abbrev pub SpelledHasNoFault : Type 0
-SpelledHasNoFault = (in_proof : Bool) (bytes : List ℕ) (at : ℕ) (q : PlainCondition) (e : ℕ) → Spells in_proof bytes at q e → (kind : TextKind) (place : ℕ) → HasFault in_proof bytes at kind place → ⊥
+SpelledHasNoFault =
+    (in_proof : Bool) (bytes : List ℕ) (at : ℕ) (q : PlainCondition) (e : ℕ) → Spells in_proof bytes at q e → (kind : TextKind) (place : ℕ) → HasFault in_proof bytes at kind place → ⊥
