@@ -16,5 +16,6 @@ pub mod AtomLines
 pub mod VarLines
 pub mod QueryLines
 pub mod QueryReads
+pub mod Unique
 mod SmallLemmas
 mod SpaceLemmas

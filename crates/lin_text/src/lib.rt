@@ -5,6 +5,7 @@ mod class;
 mod declaration;
 mod draft;
 mod fault;
+mod laws;
 mod lines;
 mod names;
 mod query;
@@ -18,6 +19,7 @@ mod token;
 mod write;
 
 pub use fault::{SessionFault, SessionKind, TextFault, TextKind};
+pub use laws::one_first_fault;
 pub use lines::next_line;
 pub use query::read_query;
 pub use small::read_small;
