@@ -1,21 +1,20 @@
 -- A comparison to the end of its line, token by token.
-use Rattle.std.proofs.Common.{◌≡◌, ℕ, ◌+◌, zero, suc, Bool, true, false, cond, List, [], ◌∷◌, ◌++◌, Option, Some, None, refl, sym, ap, subst, ◌∙◌, append_assoc, map}
+use Rattle.std.proofs.Common.{◌≡◌, ℕ, Bool, true, false, cond, List, [], ◌∷◌, ◌++◌, Some, None, refl, sym, ap, subst, ◌∙◌, append_assoc}
 use Rattle.std.specs.Prelude.{Result, Ok, Err}
 use Rattle.std.proofs.lemmas.List.{append-nil, map-append}
 use Rattle.lin_model.specs.Terms.{PlainTerm}
-use Rattle.lin_model.specs.declared.atom.Atom.{Atom}
 use Rattle.lin_model.specs.declared.atom.Cmp.{Cmp}
 use Rattle.lin_text.specs.declared.refusal.Fault.{Fault}
 use Rattle.lin_text.specs.declared.class.Lexeme.{Lexeme}
-use Rattle.lin_text.specs.Pieces.{Piece, var, word, name, number, plus, minus, times, compare, bad, line_end, PlainToken, PlainLine, pieces, AreTokens, is_last}
+use Rattle.lin_text.specs.Pieces.{Piece, var, name, number, plus, minus, times, compare, line_end, PlainToken, PlainLine, pieces, AreTokens, is_last}
 use Rattle.lin_text.specs.Classes.{class_of, shown}
-use Rattle.lin_text.specs.Grammar.{Item, Side, side_pieces, line_pieces, comparison, IsExpr, Compares}
+use Rattle.lin_text.specs.Grammar.{Side, side_pieces, IsExpr, Compares}
 use Rattle.lin_text.specs.Faults.{declared_names, atom_count}
 use Rattle.lin_text.specs.Reading.{lexeme_at, refusal, is_joint, is_times, is_end_class, end_at, comparison_by, comparison_at, side_at, atom_at, ◌>>=◌}
 use Rattle.lin_text.proofs.Places.{Place, item, after, size, done, next}
-use Rattle.lin_text.proofs.Passing.{At, At-next, At-start, IsRoom, NoFault, FirstStands, not-nil, refused, sign_passed}
-use Rattle.lin_text.proofs.Outcomes.{Passes, Passes-append, Token, token_of, Gets, Gets-one, Fails, Fails-one, Fails-behind, Outcome, Outcome-then}
-use Rattle.lin_text.proofs.Items.{later_room, refuse}
+use Rattle.lin_text.proofs.Passing.{At, At-next, At-start, IsRoom, not-nil, refused, sign_passed}
+use Rattle.lin_text.proofs.Outcomes.{Passes, Passes-append, Token, token_of, Gets, Gets-one, Fails, Fails-one, Fails-behind, Outcome}
+use Rattle.lin_text.proofs.Items.{refuse}
 use Rattle.lin_text.proofs.Sides.{IsWholeSide, side_out, right-nil, item_pieces-some}
 
 -- what was read means N of all tokens of the line; else it is the first fault

@@ -1,17 +1,17 @@
 -- The bounds of a declaration, token by token.
-use Rattle.std.proofs.Common.{◌≡◌, ℕ, ◌+◌, ◌^◌, ◌<◌, ◌≤◌, min, zero, suc, Bool, true, false, cond, nat_lt, List, [], ◌∷◌, ◌++◌, Option, Some, None, refl, sym, ap, subst, ◌∙◌, append_assoc, arith, ℤ, pos, neg_ℤ, inl, inr}
-use Rattle.std.specs.Prelude.{Result, Ok, Err, MatchBool, Contains, IsTrue}
+use Rattle.std.proofs.Common.{◌≡◌, ℕ, ◌+◌, ◌^◌, ◌<◌, ◌≤◌, min, Bool, true, false, cond, nat_lt, List, [], ◌∷◌, ◌++◌, Some, None, refl, sym, ap, subst, ◌∙◌, arith, ℤ, pos, neg_ℤ, inl, inr}
+use Rattle.std.specs.Prelude.{Result, Ok, Err, MatchBool}
 use borrow.Author.Tests.{ltb-true, ltb-false}
 use Rattle.lin_text.specs.declared.fault.TextKind.TheVariants.{NumberTooLarge}
 use Rattle.lin_text.specs.declared.refusal.Fault.{Fault}
 use Rattle.lin_text.specs.declared.class.Lexeme.{Lexeme}
-use Rattle.lin_text.specs.Pieces.{Piece, var, word, name, number, plus, minus, times, compare, bad, line_end, PlainToken, PlainLine, pieces, AreTokens, is_last}
+use Rattle.lin_text.specs.Pieces.{Piece, name, number, minus, PlainToken, PlainLine, pieces, AreTokens, is_last}
 use Rattle.lin_text.specs.Classes.{class_of, shown}
-use Rattle.lin_text.specs.Grammar.{Integer, sign, integer_pieces, integer_value}
-use Rattle.lin_text.specs.Faults.{IsTooLarge, begins_times, begins_variable, declared_names}
+use Rattle.lin_text.specs.Grammar.{Integer, integer_pieces, integer_value}
+use Rattle.lin_text.specs.Faults.{IsTooLarge, begins_variable}
 use Rattle.lin_text.specs.Reading.{lexeme_at, fault_at, refusal, refusal_kind, bound_by, bound_of, is_minus, integer_at, ◌>>=◌}
 use Rattle.lin_text.proofs.Places.{Place, low, low_number, high, high_number, var_end, size, next}
-use Rattle.lin_text.proofs.Passing.{At, At-next, IsRoom, FirstStands, not-nil, refused, small_rank, passed}
+use Rattle.lin_text.proofs.Passing.{At, At-next, IsRoom, not-nil, refused, small_rank, passed}
 use Rattle.lin_text.proofs.Outcomes.{Token, token_of, Gets, Gets-one, Fails, Fails-one, Outcome, Outcome-after, Outcome-map, Outcome-weaker}
 
 abbrev pub is_number : Piece → Bool

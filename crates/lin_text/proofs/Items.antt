@@ -1,20 +1,20 @@
 -- The items of a side, token by token.
-use Rattle.std.proofs.Common.{◌≡◌, ℕ, ◌+◌, ◌^◌, ◌<◌, ◌≤◌, min, zero, suc, Bool, true, false, cond, not, nat_lt, List, [], ◌∷◌, ◌++◌, Option, Some, None, refl, sym, ap, subst, ◌∙◌, append_assoc, arith, ℤ, pos, neg_ℤ, ◌*ℤ◌, inl, inr, position}
-use Rattle.std.specs.Prelude.{Result, Ok, Err, MatchBool, Contains, IsTrue, slice_get, slice_range, bytes_eq, unsigned_abs}
+use Rattle.std.proofs.Common.{◌≡◌, ℕ, ◌+◌, ◌^◌, ◌<◌, ◌≤◌, min, suc, Bool, true, false, cond, not, nat_lt, List, [], ◌∷◌, ◌++◌, Option, Some, None, refl, sym, ap, subst, ◌∙◌, arith, ℤ, ◌*ℤ◌, inl, inr, position}
+use Rattle.std.specs.Prelude.{Result, Ok, Err, MatchBool, Contains, slice_get, bytes_eq, unsigned_abs}
 use Rattle.std.proofs.lemmas.Int.{ints}
 use borrow.Author.Tests.{ltb-true, ltb-false}
 use Rattle.lin_model.specs.Terms.{PlainTerm, TermFits}
 use Rattle.lin_text.specs.declared.fault.TextKind.TheVariants.{NumberTooLarge, UnknownName}
 use Rattle.lin_text.specs.declared.refusal.Fault.{Fault}
 use Rattle.lin_text.specs.declared.class.Lexeme.{Lexeme}
-use Rattle.lin_text.specs.Pieces.{Piece, var, word, name, number, plus, minus, times, compare, bad, line_end, PlainToken, PlainLine, pieces, AreTokens, is_last}
+use Rattle.lin_text.specs.Pieces.{Piece, name, number, minus, times, PlainToken, PlainLine, pieces, AreTokens, is_last}
 use Rattle.lin_text.specs.Classes.{class_of, shown}
-use Rattle.lin_text.specs.Grammar.{Quantity, constant, multiple, single, Item, quantity_pieces, quantity_size, item_pieces, signed, factor_of, IsOn, IsTerm}
+use Rattle.lin_text.specs.Grammar.{Quantity, constant, multiple, single, Item, quantity_pieces, quantity_size, item_pieces, signed, IsOn, IsTerm}
 use Rattle.lin_text.specs.Faults.{IsTooLarge, begins_times, begins_variable, declared_names}
-use Rattle.lin_text.specs.Reading.{lexeme_at, fault_at, refusal, refusal_kind, is_minus, is_times, is_name_class, number_in, variable_by, variable_of, number_at, quantity_by, quantity_at, item_at, ◌>>=◌}
+use Rattle.lin_text.specs.Reading.{lexeme_at, fault_at, refusal, refusal_kind, is_minus, is_times, is_name_class, number_in, variable_by, variable_of, number_at, quantity_by, quantity_at, item_at}
 use Rattle.lin_text.proofs.Places.{Place, item, size, after, factor, next}
-use Rattle.lin_text.proofs.Passing.{At, At-next, IsRoom, FirstStands, NoFault, not-nil, refused, small_rank, name_rank, passed, sign_passed}
-use Rattle.lin_text.proofs.Outcomes.{Token, token_of, Gets, Gets-one, Fails, Fails-one, Outcome, Outcome-after, Outcome-map, Outcome-weaker}
+use Rattle.lin_text.proofs.Passing.{At, At-next, IsRoom, NoFault, not-nil, refused, small_rank, name_rank, passed, sign_passed}
+use Rattle.lin_text.proofs.Outcomes.{Token, token_of, Gets, Gets-one, Fails, Fails-one, Outcome, Outcome-after, Outcome-weaker}
 use Rattle.lin_text.proofs.PositionLemmas.{position-found, position-none, Contains-position, name-text}
 
 -- a name stands there, of a declared variable

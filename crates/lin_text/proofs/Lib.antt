@@ -16,6 +16,7 @@ pub mod AtomLines
 pub mod VarLines
 pub mod QueryLines
 pub mod QueryReads
+pub mod OneFault
 mod SmallLemmas
 mod ReadBackTokens
 mod ReadBackWords

@@ -1,9 +1,9 @@
 -- Runs at the front of a list, its first byte, and the lines that are skipped.
-use Rattle.std.proofs.Common.{◌≡◌, ℕ, ◌+◌, ◌-◌, ◌<◌, ◌≤◌, min, Bool, true, false, cond, not, List, [], ◌∷◌, length, take, drop, get_or, nat_eq, suc, add-zero, refl, sym, ap, ◌∙◌, arith, length-drop}
-use Rattle.std.specs.Prelude.{◌||◌, ◌&&◌, ◌==◌}
-use Rattle.std.specs.List.{prefix_len, suffix_len}
+use Rattle.std.proofs.Common.{◌≡◌, ℕ, ◌+◌, ◌<◌, ◌≤◌, min, Bool, true, false, cond, not, List, [], ◌∷◌, length, drop, get_or, nat_eq, suc, add-zero, refl, sym, ap, ◌∙◌, arith, length-drop}
+use Rattle.std.specs.Prelude.{◌||◌, ◌&&◌}
+use Rattle.std.specs.List.{prefix_len}
 use Rattle.std.proofs.lemmas.List.{at_drop_more, at_drop_all, drop-drop}
-use Rattle.lin_text.specs.Lines.{is_feed, is_in_line, ends_or_comments, is_skipped, first_line, line_from, line_end, line_below}
+use Rattle.lin_text.specs.Lines.{is_feed, is_in_line, ends_or_comments, is_skipped, first_line, line_from, line_below}
 use Rattle.lin_text.specs.Tokens.{begins_equal, token_length, kind_of, nothing_at, token_of, token_here}
 use Rattle.lin_text.specs.declared.token.TokenKind.{TokenKind}
 use Rattle.lin_text.specs.declared.token.TokenKind.TheVariants.{LineEnd}

@@ -1,20 +1,18 @@
 -- A token that is a name has the text of one.
 use Rattle.std.proofs.Common.{◌≡◌, ℕ, ◌+◌, ◌-◌, ◌<◌, ◌≤◌, zero, suc, Bool, true, false, cond, nat_lt, nat_eq, List, [], ◌∷◌, length, take, drop, get_or, refl, sym, ap, subst, ◌∙◌, arith}
-use Rattle.std.specs.Prelude.{◌||◌, ◌&&◌, All, IsTrue, IsFalse, slice_range, bytes_eq, codes}
+use Rattle.std.specs.Prelude.{◌||◌, ◌&&◌, IsTrue, slice_range, bytes_eq, codes}
 use Rattle.std.specs.List.{prefix_len}
 use Rattle.std.proofs.lemmas.List.Folds.{length-prefix_len}
-use borrow.Author.Tests.{ltb-true, ltb-false}
+use borrow.Author.Tests.{ltb-false}
 use Rattle.lin_model.specs.Names.{IsName, is_name_start, is_name_byte, is_digit, is_reserved}
 use Rattle.lin_text.specs.declared.token.Token.{Token}
-use Rattle.lin_text.specs.declared.token.TokenKind.{TokenKind}
 use Rattle.lin_text.specs.declared.token.TokenKind.TheVariants as kinds
 use Rattle.lin_text.specs.declared.class.Class.{Class}
 use Rattle.lin_text.specs.declared.class.Class.TheVariants.{Name}
-use Rattle.lin_text.specs.declared.class.Lexeme.{Lexeme}
 use Rattle.lin_text.specs.Lines.{is_feed, is_blank}
 use Rattle.lin_text.specs.Tokens.{token_length, symbol_length, kind_of, nothing_at, token_of, token_here, token_from}
-use Rattle.lin_text.specs.Pieces.{Piece, var, word, name, plus, minus, times, compare, piece_of, name_piece, symbol_piece, comparison_of, is_word, is_claim_word, plain_token, first_token, PlainToken}
-use Rattle.lin_text.specs.Classes.{class_of, shown}
+use Rattle.lin_text.specs.Pieces.{var, word, name, plus, minus, times, compare, piece_of, name_piece, symbol_piece, comparison_of, is_word, is_claim_word, plain_token, first_token, PlainToken}
+use Rattle.lin_text.specs.Classes.{class_of}
 
 place_more : (p : ℕ → Bool) (x : ℕ) (ys : List ℕ) (j d : ℕ) → p x ≡ true → ((i e : ℕ) → i < length ys → IsTrue (p (get_or ys i e))) → j < length (x ∷ ys) → IsTrue (p (get_or (x ∷ ys) j d))
 place_more p x ys zero d e more h = e

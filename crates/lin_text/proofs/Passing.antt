@@ -1,18 +1,15 @@
 -- At which tokens a fault stands, by the place behind the tokens before it.
-use Rattle.std.proofs.Common.{◌≡◌, ◌≢◌, ℕ, ◌+◌, ◌^◌, ◌<◌, ◌≤◌, zero, suc, Bool, true, false, cond, List, [], ◌∷◌, ◌++◌, length, Option, Some, None, refl, sym, ap, subst, inl, inr, ◌∙◌, append_assoc, arith, map, lit≤}
-use Rattle.std.specs.Prelude.{option_and_then, IsTrue, IsFalse, Contains, MatchBool}
-use Rattle.std.proofs.lemmas.List.{append-nil, map-append}
-use Rattle.lin_model.specs.declared.atom.Cmp.{Cmp}
+use Rattle.std.proofs.Common.{◌≡◌, ℕ, ◌≤◌, Bool, true, false, List, [], ◌∷◌, ◌++◌, Some, None, refl, sym, ap, inl, inr, ◌∙◌, append_assoc, arith, lit≤}
+use Rattle.std.specs.Prelude.{option_and_then, IsTrue, Contains}
 use Rattle.lin_text.specs.declared.fault.TextKind.{TextKind}
 use Rattle.lin_text.specs.declared.fault.TextKind.TheVariants.{Token, Syntax, NumberTooLarge, UnknownName, NameTwice, EmptyRange, TooManyVars, TooManyAtoms, TooManyTerms, NoMemory}
-use Rattle.lin_text.specs.declared.refusal.Fault.{Fault}
-use Rattle.lin_text.specs.Pieces.{Piece, var, word, name, number, plus, minus, times, compare, bad, line_end, PlainToken, PlainLine, pieces, AreTokens}
+use Rattle.lin_text.specs.Pieces.{Piece, var, word, name, number, plus, minus, times, compare, bad, line_end, PlainLine}
 use Rattle.lin_text.specs.Classes.{class_of}
 use Rattle.lin_text.specs.Reading.{refusal_kind}
-use Rattle.lin_text.specs.Grammar.{Side, side_pieces, item_count, joint, BeginsLine}
-use Rattle.lin_text.specs.Faults.{begins_variable, begins_atom, begins_item, declared_names, variable_count, atom_count, EndsBeforeSide, EndsInFullSide, IsTooLarge, IsEmptyRange, Stands, rank}
-use Rattle.lin_text.proofs.Places.{Place, start, var_name, low, low_number, high, high_number, var_end, item, size, after, factor, done, next, after_next, run, run-append, run-joint, run-side, start-side, run-BeginsLine}
-use Rattle.lin_text.proofs.Shapes.{Shape, SideFront, ItemFront, Shape-run, Shape-next, BeginsLine-run}
+use Rattle.lin_text.specs.Grammar.{side_pieces, item_count, joint, BeginsLine}
+use Rattle.lin_text.specs.Faults.{begins_variable, begins_atom, begins_item, declared_names, atom_count, EndsInFullSide, IsTooLarge, Stands, rank}
+use Rattle.lin_text.proofs.Places.{Place, start, var_name, item, size, after, next, after_next, run, run-append, run-joint, run-side, start-side, run-BeginsLine}
+use Rattle.lin_text.proofs.Shapes.{Shape, Shape-next, BeginsLine-run}
 
 -- the line goes on behind these tokens as it does at the place; v tells whether it declares a variable
 pub record At (v : Bool) (front : List Piece) (s : Place) : Type 0 where

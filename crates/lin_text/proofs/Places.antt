@@ -1,12 +1,8 @@
 -- Where one stands in a line behind some of its tokens, and that what can come next is what the grammar lets come.
-use Rattle.std.proofs.Common.{◌≡◌, ℕ, ◌+◌, zero, suc, Bool, true, false, cond, List, [], ◌∷◌, ◌++◌, length, Option, Some, None, refl, sym, ap, subst, ◌∙◌, append_assoc, arith}
+use Rattle.std.proofs.Common.{◌≡◌, ℕ, ◌+◌, suc, Bool, true, false, List, [], ◌∷◌, ◌++◌, length, Option, Some, None, refl, sym, ap, ◌∙◌, append_assoc, arith}
 use Rattle.std.specs.Prelude.{flat_map, option_and_then}
-use Rattle.std.proofs.lemmas.List.{append-nil}
-use Rattle.std.proofs.lemmas.Grind.{flat_map-append}
-use Rattle.lin_model.specs.declared.atom.Cmp.{Cmp}
-use Rattle.lin_model.specs.declared.atom.Cmp.TheVariants.{Le}
-use Rattle.lin_text.specs.Pieces.{Piece, var, word, name, number, plus, minus, times, compare, bad, line_end}
-use Rattle.lin_text.specs.Grammar.{Integer, Quantity, constant, multiple, single, Item, Joined, Side, Line, declaration, comparison, sign, integer_pieces, quantity_pieces, item_pieces, joint, joined_pieces, side_pieces, item_count, line_pieces, BeginsLine}
+use Rattle.lin_text.specs.Pieces.{Piece, var, name, number, plus, minus, times, compare, line_end}
+use Rattle.lin_text.specs.Grammar.{Quantity, constant, multiple, single, Item, Joined, Side, Line, declaration, comparison, sign, quantity_pieces, item_pieces, joint, joined_pieces, side_pieces, item_count, line_pieces, BeginsLine}
 
 -- On the left or the right side: before an item, behind a minus of its own, behind an item and whether it is a number alone, behind a number and `*`. The number counts the items of the side.
 pub data Place : Type 0 where

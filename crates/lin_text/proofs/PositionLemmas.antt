@@ -1,13 +1,13 @@
 -- The number of a name among names, and the text of a name.
-use Rattle.std.proofs.Common.{◌≡◌, ℕ, ◌+◌, ◌<◌, ◌≤◌, zero, suc, Bool, true, false, cond, not, nat_lt, List, [], ◌∷◌, length, get_or, Option, Some, None, refl, sym, ap, subst, ◌∙◌, arith, position}
-use Rattle.std.specs.Prelude.{slice_get, slice_range, bytes_eq, codes, Contains, is_some}
+use Rattle.std.proofs.Common.{◌≡◌, ℕ, ◌+◌, ◌<◌, ◌≤◌, zero, suc, Bool, true, false, cond, not, nat_lt, List, [], ◌∷◌, length, get_or, Some, None, refl, sym, ap, ◌∙◌, arith, position}
+use Rattle.std.specs.Prelude.{slice_get, slice_range, bytes_eq, codes, Contains}
 use Rattle.std.specs.List.{prefix_len}
 use Rattle.std.proofs.lemmas.Bool.Decides.{nat_tests}
 use Rattle.std.proofs.lemmas.Slice.Eq.{bytes_eq-Decides}
-use borrow.Author.Tests.{ltb-true, ltb-false}
+use borrow.Author.Tests.{ltb-true}
 use Rattle.lin_text.specs.declared.token.TokenKind.{TokenKind}
 use Rattle.lin_text.specs.declared.token.TokenKind.TheVariants.{Name, Number, Symbol, Bad, LineEnd}
-use Rattle.lin_text.specs.Pieces.{Piece, var, word, name, number, plus, minus, times, compare, bad, line_end, piece_of, name_piece, symbol_piece, comparison_of, is_word, plain_token, first_token, PlainToken}
+use Rattle.lin_text.specs.Pieces.{var, word, name, plus, minus, times, compare, piece_of, name_piece, symbol_piece, comparison_of, is_word, plain_token, first_token, PlainToken}
 
 found_at : (q : List ℕ → Bool) (xs : List (List ℕ)) → prefix_len (λ x. not (q x)) xs < length xs → (y : List ℕ) × (slice_get xs (prefix_len (λ x. not (q x)) xs) ≡ Some y) × (q y ≡ true)
 found_at q [] lt = absurd (omega arith)

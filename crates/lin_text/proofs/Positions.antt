@@ -1,6 +1,6 @@
 -- The tokens of a line lie behind one another, within the line.
-use Rattle.std.proofs.Common.{◌≡◌, ℕ, ◌+◌, ◌-◌, ◌<◌, ◌≤◌, min, zero, suc, Bool, true, false, cond, not, nat_lt, nat_eq, List, [], ◌∷◌, ◌++◌, length, take, drop, refl, sym, ap, subst, ◌∙◌, arith, length-drop}
-use Rattle.std.specs.Prelude.{◌||◌, ◌&&◌, MatchBool, slice_range}
+use Rattle.std.proofs.Common.{◌≡◌, ℕ, ◌+◌, ◌-◌, ◌<◌, ◌≤◌, zero, suc, Bool, true, false, cond, not, nat_lt, nat_eq, List, [], ◌∷◌, ◌++◌, length, drop, refl, sym, ap, subst, ◌∙◌, arith, length-drop}
+use Rattle.std.specs.Prelude.{◌&&◌, MatchBool, slice_range}
 use Rattle.std.specs.List.{prefix_len}
 use Rattle.std.proofs.lemmas.List.{drop-drop}
 use Rattle.std.proofs.lemmas.Bool.Decides.{nat_tests}
@@ -11,7 +11,7 @@ use Rattle.lin_text.specs.declared.token.TokenKind.{TokenKind}
 use Rattle.lin_text.specs.declared.token.TokenKind.TheVariants as kinds
 use Rattle.lin_text.specs.Lines.{is_feed, is_in_line, is_blank, line_end, line_below, line_from, first_line, is_skipped}
 use Rattle.lin_text.specs.Tokens.{token_length, symbol_length, begins_pair, begins_equal, is_symbol, kind_of, nothing_at, token_of, token_here, token_from}
-use Rattle.lin_text.specs.Pieces.{Piece, PlainToken, PlainLine, plain_token, first_token, is_last, AreTokens, AreLines, piece_of, bad, line_end as end_piece}
+use Rattle.lin_text.specs.Pieces.{PlainToken, PlainLine, plain_token, first_token, is_last, AreTokens, AreLines, piece_of}
 use Rattle.lin_text.proofs.LineLemmas.{prefix_len-le}
 
 -- a run of bytes of a sort is no longer than one of a wider sort

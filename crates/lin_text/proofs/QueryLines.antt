@@ -1,29 +1,26 @@
 -- A line of a query: what it adds, or its first fault.
-use Rattle.std.proofs.Common.{◌≡◌, ℕ, ◌+◌, ◌^◌, ◌<◌, ◌≤◌, zero, suc, Bool, true, false, cond, nat_eq, List, [], ◌∷◌, ◌++◌, length, Option, Some, None, refl, sym, ap, subst, ◌∙◌, append_assoc, arith, ℤ, pos, neg_ℤ, ◌≤ℤ◌, inl, inr, ◌⊎◌, lit≤}
+use Rattle.std.proofs.Common.{◌≡◌, ℕ, ◌^◌, ◌≤◌, Bool, true, false, cond, nat_eq, List, [], ◌∷◌, ◌++◌, length, None, refl, sym, ap, subst, ◌∙◌, append_assoc, arith, ℤ, pos, neg_ℤ, ◌≤ℤ◌, inl, inr, ◌⊎◌, lit≤}
 use Rattle.std.specs.Prelude.{Result, Ok, Err, Contains, IsTrue, slice_range}
 use Rattle.std.proofs.lemmas.Int.{ints}
-use Rattle.std.proofs.lemmas.List.{append-nil, map-append}
 use Rattle.std.proofs.lemmas.Bool.Decides.{nat_tests}
-use Rattle.lin_model.specs.Names.{IsName}
-use Rattle.lin_model.specs.Terms.{PlainVar, VarFits}
+use Rattle.lin_model.specs.Terms.{PlainVar}
 use Rattle.lin_model.specs.Conditions.{PlainCondition}
 use Rattle.lin_model.specs.declared.atom.Atom.{Atom}
 use Rattle.lin_text.specs.declared.fault.TextKind.{TextKind}
 use Rattle.lin_text.specs.declared.fault.TextKind.TheVariants as kinds
 use Rattle.lin_text.specs.declared.refusal.Fault.{Fault}
-use Rattle.lin_text.specs.declared.class.Lexeme.{Lexeme}
-use Rattle.lin_text.specs.Pieces.{Piece, var, word, name, number, plus, minus, times, compare, bad, line_end, PlainToken, PlainLine, pieces, AreTokens, is_last}
+use Rattle.lin_text.specs.Pieces.{Piece, var, word, name, number, plus, minus, times, compare, bad, line_end, PlainToken, PlainLine, pieces, is_last}
 use Rattle.lin_text.specs.Classes.{class_of, shown}
-use Rattle.lin_text.specs.Grammar.{Integer, sign, integer_pieces, integer_value, declaration, line_pieces, Declares, Compares}
+use Rattle.lin_text.specs.Grammar.{integer_pieces, integer_value, Declares, Compares}
 use Rattle.lin_text.specs.Faults.{begins_atom, begins_item, declared_names, variable_count, atom_count, IsEmptyRange, Stands, rank}
 use Rattle.lin_text.specs.Queries.{names_of}
-use Rattle.lin_text.specs.Reading.{lexeme_at, fault_at, refusal, refusal_kind, is_var_class, is_word_class, begins_atom_class, full_query_at, variable_at, declaration_at, atom_at, var_line_at, atom_line_at, line_at, ◌>>=◌}
-use Rattle.lin_text.proofs.Places.{Place, start, var_name, item, next, run}
+use Rattle.lin_text.specs.Reading.{fault_at, refusal, refusal_kind, is_var_class, begins_atom_class, full_query_at, variable_at, declaration_at, atom_at, var_line_at, atom_line_at, line_at, ◌>>=◌}
+use Rattle.lin_text.proofs.Places.{start, var_name, item, next, run}
 use Rattle.lin_text.proofs.Shapes.{BeginsLine-run}
-use Rattle.lin_text.proofs.Passing.{At, At-var, At-start, IsRoom, NoFault, FirstStands, refused}
-use Rattle.lin_text.proofs.Outcomes.{Passes, Token, token_of, Gets, Gets-one, Fails, Fails-one, Fails-behind}
+use Rattle.lin_text.proofs.Passing.{At, At-var, At-start, NoFault, FirstStands, refused}
+use Rattle.lin_text.proofs.Outcomes.{Passes, Token, Gets, Gets-one, Fails, Fails-one, Fails-behind}
 use Rattle.lin_text.proofs.AtomLines.{LineOut, LineOut-behind, atom_out}
-use Rattle.lin_text.proofs.VarLines.{IsDeclared, HasNoEmptyRange, DeclarationOut, declaration_out}
+use Rattle.lin_text.proofs.VarLines.{HasNoEmptyRange, DeclarationOut, declaration_out}
 
 -- no tokens of the line make an empty range
 abbrev pub NotEmptyLine : List Piece → Type 0

@@ -1,8 +1,8 @@
 -- The lines of a query that were read, and what is answered in the end.
-use Rattle.std.proofs.Common.{◌≡◌, ◌≢◌, ℕ, ◌+◌, ◌-◌, ◌<◌, ◌≤◌, min, zero, suc, Bool, true, false, cond, not, nat_lt, List, [], ◌∷◌, ◌++◌, length, take, drop, get_or, map, Option, Some, None, refl, sym, ap, subst, ◌∙◌, append_assoc, arith, inl, inr, ◌⊎◌, length-append}
-use Rattle.std.specs.Prelude.{Result, Ok, Err, IsErrAnd, IfErr, Contains, IsTrue, IfSome, All, AllPairs, flat_map, count_by, slice_get}
-use Rattle.std.specs.List.{prefix_len, take_while}
-use Rattle.std.proofs.lemmas.List.{append-nil, map-append, length_push, get_or_append_left, get_or_push, get_or-map, length-map, append_cancel_left, take_at, drop_at, take-append-drop, get_or_default}
+use Rattle.std.proofs.Common.{◌≡◌, ℕ, ◌+◌, ◌<◌, ◌≤◌, zero, suc, Bool, true, false, cond, not, nat_lt, List, [], ◌∷◌, ◌++◌, length, take, drop, get_or, Option, Some, refl, sym, ap, subst, ◌∙◌, append_assoc, arith, inl, inr, ◌⊎◌, length-append}
+use Rattle.std.specs.Prelude.{Result, Ok, Err, IsErrAnd, IfErr, Contains, IfSome, All, AllPairs, count_by, slice_get}
+use Rattle.std.specs.List.{prefix_len}
+use Rattle.std.proofs.lemmas.List.{append-nil, map-append, length_push, get_or_append_left, get_or_push, get_or-map, length-map, append_cancel_left, take-append-drop}
 use Rattle.std.proofs.lemmas.Grind.{flat_map-append}
 use Rattle.std.proofs.lemmas.List.Sums.{sum_by-append}
 use borrow.Author.Tests.{ltb-true, ltb-false}
@@ -13,10 +13,10 @@ use Rattle.lin_text.specs.declared.fault.TextKind.{TextKind}
 use Rattle.lin_text.specs.declared.fault.TextKind.TheVariants as kinds
 use Rattle.lin_text.specs.declared.refusal.Fault.{Fault}
 use Rattle.lin_text.specs.Lines.{line_from, line_below, line_end}
-use Rattle.lin_text.specs.Pieces.{Piece, var, word, name, number, plus, minus, times, compare, bad, line_end as line_end_piece, PlainToken, PlainLine, pieces, AreTokens, AreLines}
-use Rattle.lin_text.specs.Grammar.{Quantity, constant, multiple, single, Item, Joined, Side, sign, quantity_pieces, item_pieces, side_pieces, line_pieces, declaration, comparison, IsOn, IsTerm, AreTerms, IsExpr, Declares, Compares}
-use Rattle.lin_text.specs.Faults.{begins_variable, begins_comparison, declared_name, declared_names, variable_count, atom_count, IsEmptyRange, Stands, StandsAt, IsFirstFault, rank}
-use Rattle.lin_text.specs.Queries.{begins_word, is_of_query, query_lines, start_of, query_end, names_of, AreDeclaredAndCompared, Spell, Spells, HasFault}
+use Rattle.lin_text.specs.Pieces.{Piece, word, compare, line_end as line_end_piece, PlainToken, PlainLine, pieces, AreTokens, AreLines}
+use Rattle.lin_text.specs.Grammar.{Quantity, constant, multiple, single, Joined, Side, sign, quantity_pieces, side_pieces, IsOn, AreTerms, Declares, Compares}
+use Rattle.lin_text.specs.Faults.{begins_variable, begins_comparison, declared_name, declared_names, variable_count, atom_count, Stands, StandsAt, IsFirstFault, rank}
+use Rattle.lin_text.specs.Queries.{begins_word, is_of_query, query_lines, start_of, names_of, AreDeclaredAndCompared, Spells, HasFault}
 use Rattle.lin_text.specs.declared.class.Lexeme.{Lexeme}
 use Rattle.lin_text.specs.declared.refusal.ReadError.{ReadError}
 use Rattle.lin_text.specs.declared.refusal.ReadError.TheVariants as errors
@@ -24,9 +24,9 @@ use Rattle.lin_text.specs.Classes.{class_of}
 use Rattle.lin_text.specs.Reading.{Gives, lexeme_at, is_word_class, line_at}
 use Rattle.lin_text.specs.Answers.{IsReadError}
 use Rattle.lin_text.proofs.Positions.{tokens_total, lines_total, tokens-within, tokens-later, lines-behind}
-use Rattle.lin_text.proofs.Passing.{NoFault, FirstStands}
+use Rattle.lin_text.proofs.Passing.{NoFault}
 use Rattle.lin_text.proofs.Outcomes.{Passes, Fails, token_of}
-use Rattle.lin_text.proofs.QueryLines.{NotEmptyLine, IsClean, FailsFirst, Declared, Compared, LineResult, line_out}
+use Rattle.lin_text.proofs.QueryLines.{NotEmptyLine, IsClean, FailsFirst, LineResult, line_out}
 
 -- lines
 

@@ -1,12 +1,12 @@
 -- Tokens that can come one behind the other begin a line.
-use Rattle.std.proofs.Common.{◌≡◌, ℕ, ◌+◌, zero, suc, Bool, true, false, cond, List, [], ◌∷◌, ◌++◌, length, Option, Some, None, refl, sym, ap, subst, ◌∙◌, append_assoc, arith}
+use Rattle.std.proofs.Common.{◌≡◌, ℕ, zero, suc, Bool, true, false, List, [], ◌∷◌, ◌++◌, Some, None, refl, sym, ap, subst, ◌∙◌, append_assoc, arith}
 use Rattle.std.specs.Prelude.{flat_map, option_and_then}
 use Rattle.std.proofs.lemmas.List.{append-nil, length_push}
 use Rattle.std.proofs.lemmas.Grind.{flat_map-append}
 use Rattle.lin_model.specs.declared.atom.Cmp.{Cmp}
 use Rattle.lin_model.specs.declared.atom.Cmp.TheVariants.{Le}
-use Rattle.lin_text.specs.Pieces.{Piece, var, word, name, number, plus, minus, times, compare, bad, line_end}
-use Rattle.lin_text.specs.Grammar.{Integer, Quantity, constant, multiple, single, Item, Joined, Side, Line, declaration, comparison, sign, integer_pieces, quantity_pieces, item_pieces, joint, joined_pieces, side_pieces, item_count, line_pieces, BeginsLine}
+use Rattle.lin_text.specs.Pieces.{Piece, var, name, number, plus, minus, times, compare, line_end}
+use Rattle.lin_text.specs.Grammar.{Integer, constant, multiple, single, Item, Joined, Side, Line, declaration, comparison, sign, integer_pieces, item_pieces, joint, joined_pieces, side_pieces, item_count, line_pieces, BeginsLine}
 use Rattle.lin_text.proofs.Places.{Place, start, var_name, low, low_number, high, high_number, var_end, item, size, after, factor, done, next, run, size_next, item_next, after_next}
 
 -- a side begins behind these tokens

@@ -1,22 +1,20 @@
 -- The sides of a comparison, token by token.
-use Rattle.std.proofs.Common.{◌≡◌, ℕ, ◌+◌, ◌<◌, ◌≤◌, zero, suc, Bool, true, false, cond, List, [], ◌∷◌, ◌++◌, length, Option, Some, None, refl, sym, ap, subst, ◌∙◌, append_assoc, arith, inl, inr, lit≤}
-use Rattle.std.specs.Prelude.{Result, Ok, Err, IsTrue, flat_map}
-use Rattle.std.proofs.lemmas.List.{append-nil}
-use Rattle.lin_model.specs.Terms.{PlainTerm, ExprFits}
-use Rattle.lin_model.specs.declared.atom.Cmp.{Cmp}
+use Rattle.std.proofs.Common.{◌≡◌, ℕ, ◌+◌, ◌<◌, ◌≤◌, zero, suc, Bool, true, false, cond, List, [], ◌∷◌, ◌++◌, length, Some, None, refl, sym, ap, subst, ◌∙◌, arith, inl, inr, lit≤}
+use Rattle.std.specs.Prelude.{Result, Ok, flat_map}
+use Rattle.lin_model.specs.Terms.{PlainTerm}
 use Rattle.lin_text.specs.declared.fault.TextKind.{TextKind}
 use Rattle.lin_text.specs.declared.fault.TextKind.TheVariants as kinds
 use Rattle.lin_text.specs.declared.refusal.Fault.{Fault}
 use Rattle.lin_text.specs.declared.class.Lexeme.{Lexeme}
-use Rattle.lin_text.specs.Pieces.{Piece, var, word, name, number, plus, minus, times, compare, bad, line_end, PlainToken, PlainLine, pieces, AreTokens, is_last}
+use Rattle.lin_text.specs.Pieces.{Piece, name, number, plus, minus, PlainToken, PlainLine, pieces, AreTokens, is_last}
 use Rattle.lin_text.specs.Classes.{class_of, shown}
-use Rattle.lin_text.specs.Grammar.{Quantity, constant, multiple, single, sign, quantity_pieces, Item, Joined, Side, item_pieces, joint, joined_pieces, side_pieces, IsTerm, AreTerms, IsExpr}
+use Rattle.lin_text.specs.Grammar.{Quantity, constant, multiple, single, sign, quantity_pieces, Item, Joined, Side, item_pieces, joint, joined_pieces, side_pieces, AreTerms, IsExpr}
 use Rattle.lin_text.specs.Faults.{begins_item, declared_names, EndsBeforeSide, EndsInFullSide, Stands, rank}
 use Rattle.lin_text.specs.Reading.{lexeme_at, fault_at, refusal, full_at, begins_item_class, is_joint, is_minus, is_times, item_at, items_at, side_at, ◌>>=◌}
 use Rattle.lin_text.proofs.Places.{Place, item, after, size, next}
 use Rattle.lin_text.proofs.Shapes.{SideFront, ItemFront}
-use Rattle.lin_text.proofs.Passing.{At, At-next, IsRoom, FirstStands, not-nil, sign_passed}
-use Rattle.lin_text.proofs.Outcomes.{Token, token_of, Gets, Gets-one, Gets-none, Fails, Fails-one, Outcome, Outcome-after, Outcome-then, Outcome-map, Outcome-weaker}
+use Rattle.lin_text.proofs.Passing.{At, At-next, IsRoom, sign_passed}
+use Rattle.lin_text.proofs.Outcomes.{Token, token_of, Gets-one, Gets-none, Fails, Fails-one, Outcome, Outcome-after, Outcome-then, Outcome-map, Outcome-weaker}
 use Rattle.lin_text.proofs.Items.{IsItemAt, item_out, later_room, refuse}
 
 front_of : (l : Bool) (b : List Piece) → SideFront l b → EndsBeforeSide b

@@ -1,25 +1,23 @@
 -- A declaration to the end of its line, token by token.
-use Rattle.std.proofs.Common.{◌≡◌, ℕ, ◌+◌, ◌^◌, ◌<◌, ◌≤◌, min, zero, suc, Bool, true, false, cond, not, T, nat_lt, List, [], ◌∷◌, ◌++◌, length, Option, Some, None, refl, sym, ap, subst, ◌∙◌, append_assoc, map, arith, ◌⊎◌, ℤ, pos, neg_ℤ, ◌<ℤ◌, ◌≤ℤ◌, inl, inr, position}
+use Rattle.std.proofs.Common.{◌≡◌, ℕ, ◌+◌, ◌^◌, ◌≤◌, min, Bool, true, false, cond, not, T, nat_lt, List, [], ◌∷◌, ◌++◌, length, Option, Some, None, refl, sym, ap, subst, ◌∙◌, append_assoc, arith, ◌⊎◌, ℤ, pos, neg_ℤ, ◌<ℤ◌, ◌≤ℤ◌, inl, inr, position}
 use Rattle.std.specs.Prelude.{Result, Ok, Err, Contains, is_some, slice_range, bytes_eq, int_lt}
 use Rattle.std.proofs.lemmas.Int.{ints}
 use Rattle.std.proofs.lemmas.List.{append-nil, map-append, length-map}
 use Rattle.std.specs.Int.Signed.{lt_z_yes, lt_z_no}
-use borrow.Author.Tests.{ltb-true, ltb-false}
-use Rattle.lin_text.specs.declared.fault.TextKind.{TextKind}
+use borrow.Author.Tests.{ltb-true}
 use Rattle.lin_text.specs.declared.fault.TextKind.TheVariants.{NameTwice, EmptyRange, NumberTooLarge}
 use Rattle.lin_text.specs.declared.refusal.Fault.{Fault}
-use Rattle.lin_text.specs.declared.class.Class.TheVariants.{Number}
 use Rattle.lin_text.specs.declared.class.Lexeme.{Lexeme}
-use Rattle.lin_text.specs.Pieces.{Piece, var, word, name, number, plus, minus, times, compare, bad, line_end, PlainToken, PlainLine, pieces, AreTokens, is_last}
+use Rattle.lin_text.specs.Pieces.{Piece, var, name, number, minus, line_end, PlainToken, PlainLine, pieces, AreTokens, is_last}
 use Rattle.lin_text.specs.Classes.{class_of, shown}
 use Rattle.lin_text.specs.Grammar.{Integer, sign, integer_pieces, integer_value}
-use Rattle.lin_text.specs.Faults.{declared_names, IsEmptyRange, rank}
+use Rattle.lin_text.specs.Faults.{declared_names, IsEmptyRange}
 use Rattle.lin_text.specs.Reading.{lexeme_at, fault_at, refusal, is_minus, is_name_class, number_in, is_end_class, bound_by, bound_of, integer_at, free_name_at, range_at, end_at, declaration_at, ◌>>=◌}
-use Rattle.lin_text.proofs.Places.{Place, var_name, low, low_number, high, high_number, var_end, size, done, next}
-use Rattle.lin_text.proofs.Passing.{At, At-next, At-var, IsRoom, NoFault, FirstStands, not-nil, refused, passed, twice_rank, late_rank}
-use Rattle.lin_text.proofs.Outcomes.{Passes, Token, token_of, Gets, Gets-one, Gets-both, Fails, Fails-one, Fails-behind, Outcome}
+use Rattle.lin_text.proofs.Places.{Place, var_name, low, low_number, high, high_number, var_end, next}
+use Rattle.lin_text.proofs.Passing.{At, At-next, At-var, IsRoom, passed, twice_rank, late_rank}
+use Rattle.lin_text.proofs.Outcomes.{Passes, Token, token_of, Gets, Gets-one, Fails, Fails-one, Fails-behind, Outcome}
 use Rattle.lin_text.proofs.Bounds.{IsIntegerAt, integer_out, low_places, high_places, refuse, not_too_large}
-use Rattle.lin_text.proofs.AtomLines.{LineOut, LineOut-behind, LineOut-then, end_out}
+use Rattle.lin_text.proofs.AtomLines.{LineOut, LineOut-behind, end_out}
 use Rattle.lin_model.specs.Names.{IsName}
 use Rattle.lin_text.proofs.NamedLemmas.{named-plain}
 use Rattle.lin_text.proofs.PositionLemmas.{position-none, Contains-position, name-text}

@@ -1,7 +1,7 @@
 -- Words and names.
-use Rattle.std.proofs.Common.{◌≡◌, ℕ, Bool, true, false, cond, List, refl, ap, ◌∙◌}
+use Rattle.std.proofs.Common.{◌≡◌, ℕ, Bool, true, false, cond, List, refl}
 use Rattle.std.specs.Prelude.{bytes_eq, codes}
-use Rattle.lin_text.specs.Pieces.{Piece, var, word, name, name_piece, is_word}
+use Rattle.lin_text.specs.Pieces.{var, word, name, name_piece, is_word}
 use Rattle.lin_text.specs.Classes.{class_of}
 use Rattle.lin_text.specs.declared.class.Class.TheVariants.{Var, Word, Name}
 

@@ -2,7 +2,6 @@
 use Rattle.std.specs.Prelude.{◌≡◌, ℕ, Bool, ◌⊎◌, List}
 use Rattle.lin_text.specs.declared.fault.TextFault.{TextFault}
 use Rattle.lin_text.specs.declared.fault.TextKind.TheVariants.{NoMemory}
-use Rattle.lin_text.specs.declared.refusal.Fault.{Fault}
 use Rattle.lin_text.specs.declared.refusal.ReadError.{ReadError}
 use Rattle.lin_text.specs.declared.refusal.ReadError.TheVariants as errors
 use Rattle.lin_text.specs.Lines.{line_number, column}

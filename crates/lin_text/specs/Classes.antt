@@ -1,5 +1,5 @@
 -- What the reader sees of a token: its class, which leaves out the bytes of a name and of a word, and how large a large number is.
-use Rattle.std.specs.Prelude.{ℕ, ◌+◌, ◌^◌, min, List}
+use Rattle.std.specs.Prelude.{◌+◌, ◌^◌, min}
 use Rattle.lin_text.specs.declared.class.Class.{Class}
 use Rattle.lin_text.specs.declared.class.Class.TheVariants.{Var, Word, Name, Number, Plus, Minus, Times, Compare, Bad, LineEnd}
 use Rattle.lin_text.specs.declared.class.Lexeme.{Lexeme}

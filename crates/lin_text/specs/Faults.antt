@@ -1,9 +1,9 @@
 -- The faults of a query's text: for each kind at which tokens it stands, and which one is answered.
-use Rattle.std.specs.Prelude.{◌≡◌, ◌≢◌, ℕ, ◌+◌, ◌^◌, ◌<◌, ◌≤◌, Bool, true, false, ◌⊎◌, List, [], ◌∷◌, ◌++◌, length, map, flat_map, count_by, Contains, IsTrue, IsFalse, MatchBool, ℤ, ◌<ℤ◌}
+use Rattle.std.specs.Prelude.{◌≡◌, ℕ, ◌^◌, ◌<◌, ◌≤◌, Bool, true, false, ◌⊎◌, List, [], ◌∷◌, ◌++◌, flat_map, count_by, Contains, IsTrue, IsFalse, MatchBool, ◌<ℤ◌}
 use Rattle.lin_model.specs.declared.atom.Cmp.{Cmp}
 use Rattle.lin_text.specs.declared.fault.TextKind.{TextKind}
 use Rattle.lin_text.specs.declared.fault.TextKind.TheVariants.{Token, Syntax, NumberTooLarge, UnknownName, NameTwice, EmptyRange, TooManyVars, TooManyAtoms, TooManyTerms, NoMemory}
-use Rattle.lin_text.specs.Pieces.{Piece, var, word, name, number, plus, minus, times, compare, bad, line_end, PlainToken, PlainLine, pieces}
+use Rattle.lin_text.specs.Pieces.{Piece, var, word, name, number, minus, times, compare, bad, line_end, PlainToken, PlainLine, pieces}
 use Rattle.lin_text.specs.Grammar.{Integer, Side, integer_pieces, integer_value, side_pieces, item_count, joint, BeginsLine}
 
 -- a line that begins with the word `var`

@@ -1,9 +1,9 @@
 -- The lines of a query as trees, the tokens with which a tree is written, and what it means.
-use Rattle.std.specs.Prelude.{◌≡◌, ℕ, ◌+◌, Bool, true, false, List, [], ◌∷◌, ◌++◌, length, map, flat_map, slice_get, ℤ, pos, neg_ℤ, ◌*ℤ◌, Option, Some, None, if◌then◌else◌}
+use Rattle.std.specs.Prelude.{◌≡◌, ℕ, ◌+◌, Bool, false, List, [], ◌∷◌, ◌++◌, length, flat_map, slice_get, ℤ, pos, neg_ℤ, ◌*ℤ◌, Option, Some, None, if◌then◌else◌}
 use Rattle.lin_model.specs.Terms.{PlainVar, PlainTerm, TermFits, VarFits, ExprFits}
 use Rattle.lin_model.specs.declared.atom.Atom.{Atom}
 use Rattle.lin_model.specs.declared.atom.Cmp.{Cmp}
-use Rattle.lin_text.specs.Pieces.{Piece, var, word, name, number, plus, minus, times, compare, bad, line_end}
+use Rattle.lin_text.specs.Pieces.{Piece, var, name, number, plus, minus, times, compare, line_end}
 
 -- an integer: `-` number, or number
 pub record Integer : Type 0 where

@@ -28,3 +28,8 @@ SpelledOnce =
 abbrev pub SpelledHasNoFault : Type 0
 SpelledHasNoFault =
     (in_proof : Bool) (bytes : List ℕ) (at : ℕ) (q : PlainCondition) (e : ℕ) → Spells in_proof bytes at q e → (kind : TextKind) (place : ℕ) → HasFault in_proof bytes at kind place → ⊥
+
+-- a text has at most one first fault, at one place
+abbrev pub OneFirstFault : Type 0
+OneFirstFault =
+    (in_proof : Bool) (bytes : List ℕ) (at : ℕ) (k j : TextKind) (a b : ℕ) → HasFault in_proof bytes at k a → HasFault in_proof bytes at j b → (k ≡ j) × (a ≡ b)

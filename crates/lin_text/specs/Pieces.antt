@@ -1,5 +1,5 @@
 -- What a token means for the grammar, and the tokens of a line and of a text.
-use Rattle.std.specs.Prelude.{◌≡◌, ℕ, ◌+◌, ◌-◌, ◌*◌, ◌<◌, fold, Bool, true, false, ◌||◌, ◌&&◌, ◌==◌, List, [], ◌∷◌, length, map, slice_range, bytes_eq, codes, MatchBool, if◌then◌else◌}
+use Rattle.std.specs.Prelude.{◌≡◌, ℕ, ◌+◌, ◌-◌, ◌*◌, ◌<◌, fold, Bool, true, false, ◌||◌, ◌&&◌, List, [], ◌∷◌, length, map, slice_range, bytes_eq, codes, MatchBool, if◌then◌else◌}
 use Rattle.lin_model.specs.Names.{is_reserved}
 use Rattle.lin_model.specs.declared.atom.Cmp.{Cmp}
 use Rattle.lin_model.specs.declared.atom.Cmp.TheVariants.{Le, Lt, Ge, Gt, Eq, Ne}

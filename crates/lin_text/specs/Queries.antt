@@ -5,7 +5,7 @@ use Rattle.lin_model.specs.Terms.{PlainVar}
 use Rattle.lin_model.specs.Conditions.{PlainCondition, Fits}
 use Rattle.lin_model.specs.declared.atom.Atom.{Atom}
 use Rattle.lin_text.specs.declared.fault.TextKind.{TextKind}
-use Rattle.lin_text.specs.Pieces.{Piece, var, word, name, number, plus, minus, times, compare, bad, line_end, PlainLine, pieces, AreLines}
+use Rattle.lin_text.specs.Pieces.{Piece, word, PlainLine, pieces, AreLines}
 use Rattle.lin_text.specs.Grammar.{Declares, Compares}
 use Rattle.lin_text.specs.Faults.{IsFirstFault}
 

@@ -1,5 +1,5 @@
 -- What the reader answers for a part of a line: a value with the place behind it, or the first fault.
-use Rattle.std.specs.Prelude.{◌≡◌, ℕ, ◌+◌, ◌^◌, zero, suc, nat_lt, Bool, true, false, not, List, [], ◌∷◌, ◌++◌, ◌==◌, length, slice_range, bytes_eq, position, is_some, ℤ, pos, neg_ℤ, int_lt, Option, Some, None, Result, Ok, Err, if◌then◌else◌}
+use Rattle.std.specs.Prelude.{◌≡◌, ℕ, ◌^◌, zero, suc, nat_lt, Bool, true, false, not, List, [], ◌∷◌, ◌++◌, ◌==◌, length, slice_range, bytes_eq, position, is_some, ℤ, pos, neg_ℤ, int_lt, Option, Some, None, Result, Ok, Err, if◌then◌else◌}
 use Rattle.lin_model.specs.Terms.{PlainTerm, PlainVar}
 use Rattle.lin_model.specs.Conditions.{PlainCondition}
 use Rattle.lin_model.specs.declared.atom.Atom.{Atom}

@@ -1,5 +1,5 @@
 -- The forms of tokens, and the longest match.
-use Rattle.std.specs.Prelude.{ℕ, ◌+◌, ◌<◌, ◌≤◌, nat_lt, Bool, true, false, ◌||◌, ◌&&◌, ◌==◌, ◌⊎◌, List, [], ◌∷◌, length, take, drop, slice_index, All, Contains, IsTrue, codes, if◌then◌else◌}
+use Rattle.std.specs.Prelude.{ℕ, ◌+◌, ◌<◌, ◌≤◌, nat_lt, Bool, false, ◌||◌, ◌&&◌, ◌==◌, ◌⊎◌, List, [], ◌∷◌, length, take, drop, slice_index, All, Contains, IsTrue, codes, if◌then◌else◌}
 use Rattle.std.specs.List.{prefix_len}
 use Rattle.lin_model.specs.Names.{is_name_start, is_name_byte, is_digit}
 use Rattle.lin_text.specs.Lines.{is_feed, is_blank}

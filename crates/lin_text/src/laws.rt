@@ -1,5 +1,5 @@
 //! Laws of the texts of conditions, each the contract of a function that does nothing.
-ghost use Rattle.lin_text.specs.Laws.{SpelledHasNoFault, SpelledOnce, WrittenIsSpelled, WrittenIsSpelledWithin};
+ghost use Rattle.lin_text.specs.Laws.{OneFirstFault, SpelledHasNoFault, SpelledOnce, WrittenIsSpelled, WrittenIsSpelledWithin};
 
 /// What is written for a condition is spelled as that condition, in the sense of the grammar.
 pub fn written_is_spelled()
@@ -19,4 +19,9 @@ pub fn spelled_once()
 /// A text that spells a condition has no fault.
 pub fn spelled_has_no_fault()
     ensures { SpelledHasNoFault }
+{}
+
+/// A text has at most one first fault, at one place.
+pub fn one_first_fault()
+    ensures { OneFirstFault }
 {}

@@ -1,4 +1,4 @@
-use Rattle.std.proofs.Common.{◌≤◌, arith, ◌∙◌, sym}
+use Rattle.std.proofs.Common.{arith, ◌∙◌, sym}
 use Rattle.lin_text.proofs.LineLemmas.{line_from-below, line_from-end, line_from-here}
 use Rattle.lin_text.proofs.lines.first_line.Goals as goal
 

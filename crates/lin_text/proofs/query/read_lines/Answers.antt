@@ -1,4 +1,4 @@
-use Rattle.std.proofs.Common.{◌≡◌, ◌≤◌, ℕ, length, arith, subst, sym, ◌∙◌, ap}
+use Rattle.std.proofs.Common.{ℕ, arith, subst, sym, ◌∙◌, ap}
 use Rattle.lin_model.specs.Conditions.{PlainCondition, Fits}
 use Rattle.lin_text.specs.Lines.{line_from}
 use Rattle.lin_text.specs.Queries.{Spells}

@@ -1,4 +1,4 @@
-use Rattle.std.proofs.Common.{◌≡◌, ◌≤◌, ◌<◌, vec_len, arith, sym, ap, ◌∙◌, ◌++◌, ◌∷◌, []}
+use Rattle.std.proofs.Common.{vec_len, arith, sym, ap, ◌∙◌}
 use Rattle.std.specs.Prelude.{Ok, Err}
 use Rattle.lin_text.specs.Reading.{side_at}
 use Rattle.lin_text.proofs.SideLemmas.{Gives-fault, behind-fault, behind-last, behind-next, behind-full}

@@ -1,5 +1,4 @@
-use Rattle.std.proofs.Common.{◌≡◌, ◌++◌, ◌∷◌, [], false, ap, ◌∙◌, map, position, bytes_eq, ℕ, List, None, Vec, Global}
-use Rattle.std.specs.List.{list_any}
+use Rattle.std.proofs.Common.{◌≡◌, ◌++◌, ◌∷◌, [], ap, ◌∙◌, map, position, bytes_eq, ℕ, List, None, Vec, Global}
 use Rattle.lin_text.proofs.NameLemmas.{list_any-none, map-insert}
 use Rattle.lin_text.proofs.names.Names.add.Goals as goal
 
