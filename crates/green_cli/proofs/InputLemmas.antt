@@ -1,5 +1,5 @@
 -- Reading a source piece by piece.
-use Rattle.std.proofs.Common.{◌≡◌, ℕ, ◌≤◌, List, [], ◌++◌, length, take, drop, Option, Some, None, refl, sym, ap, ◌∙◌, append_assoc, append-nil, subst}
+use Rattle.std.proofs.Common.{◌≡◌, ℕ, List, [], ◌++◌, take, drop, Option, Some, None, refl, sym, ap, ◌∙◌, append_assoc, subst}
 use Rattle.std.proofs.lemmas.List.{take-append-drop}
 use Rattle.outside.specs.Bytes.{Gives}
 use Rattle.green_cli.specs.Input.{Consumes}
@@ -21,11 +21,11 @@ Consumes-append None None new xs ys first second = second
 Consumes-append None (Some more) new xs ys first second = absurd (cc)
 Consumes-append (Some all) None new xs ys first second = let no = first.2 in absurd (cc)
 Consumes-append (Some all) (Some more) new xs ys first second =
-    let same : more ≡ first.0 = (let e = first.2 in cc) in
-    (second.0,
-        first.1 ∙ (ap (λ (rest : List ℕ). xs ++ rest) (sym same ∙ second.1) ∙ sym (append_assoc xs ys second.0)),
-        second.2)
-
+    let same : more ≡ first.0 = (let e = first.2 in cc) in (
+      second.0,
+      first.1 ∙ (ap (λ (rest : List ℕ). xs ++ rest) (sym same ∙ second.1) ∙ sym (append_assoc xs ys second.0)),
+      second.2,
+    )
 
 -- the bytes grew by one piece that was taken
 pub Consumes_more : (old mid new : Option (List ℕ)) (xs ys : List ℕ) → Consumes old mid xs → (piece : List ℕ) × Consumes mid new piece × (ys ≡ xs ++ piece) → Consumes old new ys

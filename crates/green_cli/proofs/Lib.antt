@@ -1,2 +1,3 @@
+mod HalvingLemmas
 mod InputLemmas
 mod TextLemmas

@@ -1,5 +1,5 @@
 -- Loops that write what is left of a list.
-use Rattle.std.proofs.Common.{◌≡◌, ℕ, suc, ◌+◌, ◌<◌, ◌≤◌, List, [], ◌∷◌, ◌++◌, length, take, drop, get_or, ℤ, sym, ap, ◌∙◌, append_assoc, add-one, drop-cons, refl, append-nil, codes, zero, arith}
+use Rattle.std.proofs.Common.{◌≡◌, ℕ, suc, ◌+◌, ◌<◌, List, [], ◌∷◌, ◌++◌, length, drop, get_or, ℤ, sym, ap, ◌∙◌, append_assoc, add-one, drop-cons, refl, append-nil, codes, zero, arith}
 use Rattle.lin_model.specs.Terms.{PlainVar}
 use Rattle.lin_model.specs.Conditions.{PlainCondition}
 use Rattle.lin_text.specs.Spelling.{line}

@@ -1,5 +1,5 @@
 -- When an answer is right for its query.
-use Rattle.std.specs.Prelude.{◌≡◌, List, [], ◌∷◌, ℤ, ℕ}
+use Rattle.std.specs.Prelude.{◌≡◌, List, [], ◌∷◌}
 use Rattle.std.specs.List.{AllZip}
 use Rattle.lin_model.specs.Conditions.{PlainCondition, Holds, IsSatisfiable}
 use Rattle.green_cli.specs.declared.answer.Told.{Told}

@@ -13,7 +13,11 @@ use std::alloc::Global;
 /// The text of the answers: a line that begins it, for each executor a line and a line for each of its
 /// queries, and a line that ends it.
 #[tactic(auto, unfolding(crate::specs::AnswersText::answers_text))]
-pub fn write_answers(alloc: Global, session: &Session, answers: &[Items<Plain>]) -> Result<Vec<u8>, NoMemory>
+pub fn write_answers(
+    alloc: Global,
+    session: &Session,
+    answers: &[Items<Plain>],
+) -> Result<Vec<u8>, NoMemory>
     requires shape { HaveAnswers session.now answers.now }
     requires places { solved_in_all answers.now < 2 ^ 64 }
     ensures { IfOk result (λ text. text.items ≡ answers_text session.now answers.now) }
@@ -25,7 +29,11 @@ pub fn write_answers(alloc: Global, session: &Session, answers: &[Items<Plain>])
     Ok(out)
 }
 
-fn push_executors(out: &mut Vec<u8>, executors: &[Script], scripts: &[Items<Plain>]) -> Result<(), NoMemory>
+fn push_executors(
+    out: &mut Vec<u8>,
+    executors: &[Script],
+    scripts: &[Items<Plain>],
+) -> Result<(), NoMemory>
     requires shape { HaveAnswers executors.now scripts.now }
     requires places { solved_in_all scripts.now < 2 ^ 64 }
     ensures { OnOk result (out.new.items ≡ out.old.items ++ executors_text 0 executors.now scripts.now) }
@@ -39,7 +47,12 @@ fn push_executors(out: &mut Vec<u8>, executors: &[Script], scripts: &[Items<Plai
 }
 
 /// Adds a line for each answer. `place` parts were solved before them; it answers how many were up to their end.
-fn push_script(out: &mut Vec<u8>, place: u64, queries: &[Condition], answers: &[Plain]) -> Result<u64, NoMemory>
+fn push_script(
+    out: &mut Vec<u8>,
+    place: u64,
+    queries: &[Condition],
+    answers: &[Plain],
+) -> Result<u64, NoMemory>
     requires shape { length queries.now ≡ length answers.now }
     requires places { place + solved_count answers.now < 2 ^ 64 }
     ensures text { OnOk result (out.new.items ≡ out.old.items ++ script_text place queries.now answers.now) }
@@ -53,7 +66,12 @@ fn push_script(out: &mut Vec<u8>, place: u64, queries: &[Condition], answers: &[
 }
 
 /// Adds the line of one answer, and answers how many parts were solved up to its end.
-fn push_line(out: &mut Vec<u8>, place: u64, query: &Condition, answer: &Plain) -> Result<u64, NoMemory>
+fn push_line(
+    out: &mut Vec<u8>,
+    place: u64,
+    query: &Condition,
+    answer: &Plain,
+) -> Result<u64, NoMemory>
     requires { place + length answer.now.parts < 2 ^ 64 }
     ensures text { OnOk result (out.new.items ≡ out.old.items ++ line (answer_text place query.now answer.now)) }
     ensures next { IfOk result (λ next. next ≡ place + length answer.now.parts) }
@@ -64,7 +82,12 @@ fn push_line(out: &mut Vec<u8>, place: u64, query: &Condition, answer: &Plain) -
 }
 
 #[tactic(auto, unfolding(crate::specs::AnswersText::answer_text))]
-fn push_answer(out: &mut Vec<u8>, place: u64, query: &Condition, answer: &Plain) -> Result<(), NoMemory>
+fn push_answer(
+    out: &mut Vec<u8>,
+    place: u64,
+    query: &Condition,
+    answer: &Plain,
+) -> Result<(), NoMemory>
     requires { place + length answer.now.parts < 2 ^ 64 }
     ensures { OnOk result (out.new.items ≡ out.old.items ++ answer_text place query.now answer.now) }
 {

@@ -36,7 +36,11 @@ pub fn read_input<S: Source>(alloc: Global, source: &mut S) -> Result<Vec<u8>, F
 }
 
 /// Reads once, and adds what came.
-fn read_piece<S: Source>(source: &mut S, buffer: &mut [u8], bytes: &mut Vec<u8>) -> Result<usize, Fault>
+fn read_piece<S: Source>(
+    source: &mut S,
+    buffer: &mut [u8],
+    bytes: &mut Vec<u8>,
+) -> Result<usize, Fault>
     ensures count { IfOk result (λ n. n ≤ length buffer.new) }
     ensures len { IfOk result (λ n. length bytes.new.items ≡ length bytes.old.items + n) }
     ensures taken { IfOk result (λ n. (piece : List ℕ) × Consumes (S.left source.old) (S.left source.new) piece × (bytes.new.items ≡ bytes.old.items ++ piece)) }

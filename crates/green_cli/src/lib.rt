@@ -3,9 +3,11 @@
 
 mod answer;
 mod answers_text;
+mod bound;
 mod decide;
 mod fault;
 mod input;
+mod interval;
 mod outcome;
 mod run;
 mod solve;

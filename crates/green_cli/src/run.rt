@@ -121,7 +121,13 @@ fn finish<K: Sink, D: Disk>(solved: Solved, sink: &mut K, disk: D, other: D) -> 
 }
 
 /// Writes the line of a fault.
-fn refuse<K: Sink, D: Disk>(alloc: Global, fault: Fault, sink: &mut K, disk: D, other: D) -> Outcome<D>
+fn refuse<K: Sink, D: Disk>(
+    alloc: Global,
+    fault: Fault,
+    sink: &mut K,
+    disk: D,
+    other: D,
+) -> Outcome<D>
     ensures status { result.status ≡ status_of fault }
     ensures line { Writes (line_of fault) (K.taken sink.old) (K.taken sink.new) (K.faults sink.old) (K.faults sink.new) }
     ensures nothing { IsEmpty result.report }

@@ -29,7 +29,7 @@ pub struct Solved {
 pub fn solve<S: Source>(alloc: Global, source: &mut S) -> Result<Solved, Fault>
     ensures { MatchResult result
         (λ solved. Solves (S.left source.old) (S.left source.new) solved.report
-            × (solved.text.items ≡ answers_text solved.report.session solved.report.answers))
+        × (solved.text.items ≡ answers_text solved.report.session solved.report.answers))
         (λ fault. HasReason fault (S.left source.old) (S.left source.new) (S.faults source.old) (S.faults source.new)) }
 {
     let bytes = read_input(alloc, source)?;

@@ -1,5 +1,5 @@
 pub mod Elements
-mod TermLemmas
+pub mod TermLemmas
 pub mod FormLemmas
 pub mod OrderLemmas
 pub mod KeyLemmas

@@ -1,9 +1,9 @@
-use Rattle.std.proofs.Common.{◌≡◌, drop, ◌+◌, ◌<◌, ◌∙◌, ◌++◌, sym, ap, length, get_or, List, arith, codes, ℕ, append_assoc}
+use Rattle.std.proofs.Common.{◌≡◌, drop, ◌+◌, ◌<◌, ◌∙◌, ◌++◌, sym, ap, length, List, arith, codes, ℕ, append_assoc}
 use Rattle.std.proofs.lemmas.List.{drop_all}
 use Rattle.lin_model.specs.Conditions.{PlainCondition}
 use Rattle.lin_text.specs.Spelling.{line}
 use Rattle.green_cli.specs.declared.answer.Plain.{Plain}
-use Rattle.green_cli.specs.AnswersText.{solved_count, solved_in_all, script_text}
+use Rattle.green_cli.specs.AnswersText.{solved_count, script_text}
 use Rattle.green_cli.proofs.TextLemmas.{carry, done, executors_step, executors_end, count_all_step, next_executors, answers_read, zip_length}
 use Rattle.green_cli.proofs.answers_text.push_executors.Goals as goal
 
@@ -33,12 +33,12 @@ loop-i-preserved c =
     let step = executors_step c.args.executors.now c.args.scripts.now c.loop-i.i c.loop-i.place c.index-executors-i.result c.index-scripts-i.result c.loop-i-test.true c.index-executors-i.is within c.index-scripts-i.is in
     let head : c.push_str.new.out.items ≡ c.loop-i.out.items ++ line (codes "executor") = c.in_ok-push_str.ensures {u = tt} in
     let body : c.push_script.new.out.items ≡ c.push_str.new.out.items ++ script_text c.loop-i.place c.index-executors-i.result c.index-scripts-i.result =
-        c.in_ok-place.ensures.text ∙ ap (λ (xs : List ℕ). c.push_str.new.out.items ++ xs) (ap (λ (qs : List PlainCondition). script_text c.loop-i.place qs c.as_slice.result.now) c.queries.ensures ∙ ap (λ (rs : List Plain). script_text c.loop-i.place c.index-executors-i.result rs) c.as_slice.ensures) in
+    c.in_ok-place.ensures.text ∙ ap (λ (xs : List ℕ). c.push_str.new.out.items ++ xs) (ap (λ (qs : List PlainCondition). script_text c.loop-i.place qs c.as_slice.result.now) c.queries.ensures ∙ ap (λ (rs : List Plain). script_text c.loop-i.place c.index-executors-i.result rs) c.as_slice.ensures) in
     let grows : c.push_script.new.out.items ≡ c.loop-i.out.items ++ (line (codes "executor") ++ script_text c.loop-i.place c.index-executors-i.result c.index-scripts-i.result) =
-        body ∙ (ap (λ (xs : List ℕ). xs ++ script_text c.loop-i.place c.index-executors-i.result c.index-scripts-i.result) head ∙ append_assoc c.loop-i.out.items (line (codes "executor")) _) in
+    body ∙ (ap (λ (xs : List ℕ). xs ++ script_text c.loop-i.place c.index-executors-i.result c.index-scripts-i.result) head ∙ append_assoc c.loop-i.out.items (line (codes "executor")) _) in
     record {
       counted = omega (arith, count, read, next, c.loop-i.invariant.counted);
-      text = carry _ _ _ _ _ _ c.loop-i.invariant.text (next_executors _ (line (codes "executor") ++ script_text c.loop-i.place c.index-executors-i.result c.index-scripts-i.result) (drop (c.loop-i.i + 1) c.args.executors.now) (drop (c.loop-i.i + 1) c.args.scripts.now) _ _ (next ∙ ap (λ (n : ℕ). c.loop-i.place + n) read) step) grows
+      text = carry _ _ _ _ _ _ c.loop-i.invariant.text (next_executors _ (line (codes "executor") ++ script_text c.loop-i.place c.index-executors-i.result c.index-scripts-i.result) (drop (c.loop-i.i + 1) c.args.executors.now) (drop (c.loop-i.i + 1) c.args.scripts.now) _ _ (next ∙ ap (λ (n : ℕ). c.loop-i.place + n) read) step) grows;
     }
 
 pub returns : goal.returns

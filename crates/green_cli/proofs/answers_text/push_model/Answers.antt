@@ -15,8 +15,8 @@ loop-i-preserved c =
     let found = c.in-Some.ensures.lookup in
     let more = model_step c.args.vars.now c.args.values.now c.loop-i.i c.index-vars-i.result c.in-Some.value.now c.loop-i-test.true c.index-vars-i.is found.3.0 found.1 in
     let grows : c.push_value.new.out.items ≡ c.loop-i.out.items ++ value_text c.index-vars-i.result c.in-Some.value.now =
-        let fits : SFits w64 c.in-Some.value.now = search rules in
-        simp to_z-of_z at (c.in_ok-push_value.ensures {u = tt})
+    let fits : SFits w64 c.in-Some.value.now = search rules in
+    simp to_z-of_z at (c.in_ok-push_value.ensures {u = tt})
     in
     carry _ _ _ _ _ _ c.loop-i.invariant more grows
 

@@ -8,7 +8,7 @@ loop-part-preserved c =
     let more = parts_step c.args.parts.now c.loop-part.part-index c.loop-part.next c.loop-part-test.true in
     record {
       counted = omega arith;
-      text = carry _ _ _ _ _ _ c.loop-part.invariant.text more (c.in_ok-push_part.ensures {u = tt})
+      text = carry _ _ _ _ _ _ c.loop-part.invariant.text more (c.in_ok-push_part.ensures {u = tt});
     }
 
 pub returns : goal.returns

@@ -11,7 +11,7 @@ loop-i-preserved c =
     let next = c.in_ok-next.ensures.next in
     record {
       counted = omega (arith, count, next, c.loop-i.invariant.counted);
-      text = carry _ _ _ _ _ _ c.loop-i.invariant.text (next_script _ _ _ _ _ _ next step) c.in_ok-next.ensures.text
+      text = carry _ _ _ _ _ _ c.loop-i.invariant.text (next_script _ _ _ _ _ _ next step) c.in_ok-next.ensures.text;
     }
 
 pub returns-clause-text : goal.returns-clause-text

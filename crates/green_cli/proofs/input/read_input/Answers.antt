@@ -10,7 +10,7 @@ loop-turn-init g c =
       taken = subst (λ (xs : List ℕ). Consumes left left xs) (sym c.new-bytes.ensures.items) (Consumes-none left);
       turns = omega arith;
       short = omega (arith, c.new-bytes.ensures.len);
-      later = omega arith
+      later = omega arith;
     }
 
 pub returns-then-len-gt-MAX_INPUT : goal.returns-then-len-gt-MAX_INPUT
@@ -18,7 +18,7 @@ returns-then-len-gt-MAX_INPUT g c =
     record {
       bytes = c.read_piece.new.bytes.items;
       given = Consumes_more (g.S.Source.left c.args.source.now) (g.S.Source.left c.loop-turn.source) (g.S.Source.left c.read_piece.new.source) c.loop-turn.bytes.items c.read_piece.new.bytes.items c.loop-turn.invariant.taken c.in_ok-read_piece.ensures.taken;
-      long = omega (arith, c.in_ok-read_piece.ensures.len, c.in_ok-read_piece.ensures.count, length-take c.min-room.result c.loop-turn.buffer)
+      long = omega (arith, c.in_ok-read_piece.ensures.len, c.in_ok-read_piece.ensures.count, length-take c.min-room.result c.loop-turn.buffer);
     }
 
 pub loop-turn-preserved : goal.loop-turn-preserved
@@ -26,5 +26,5 @@ loop-turn-preserved g c = record {
   taken = Consumes_more (g.S.Source.left c.args.source.now) (g.S.Source.left c.loop-turn.source) (g.S.Source.left c.read_piece.new.source) c.loop-turn.bytes.items c.read_piece.new.bytes.items c.loop-turn.invariant.taken c.in_ok-read_piece.ensures.taken;
   turns = omega (arith, c.in_ok-read_piece.ensures.len);
   short = omega (arith, c.in_ok-read_piece.ensures.len);
-  later = omega (arith, c.in_ok-read_piece.ensures.later)
+  later = omega (arith, c.in_ok-read_piece.ensures.later);
 }

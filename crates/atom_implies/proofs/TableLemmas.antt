@@ -1,0 +1,160 @@
+-- The table is right: it says yes exactly where each integer that passes the one test passes the other.
+use Rattle.std.proofs.Common.{◌≡◌, ◌≢◌, ℕ, get_or, nat_eq, List, ℤ, pos, ◌+ℤ◌, Bool, true, false, refl, arith, sym, subst, ap, ◌∙◌, ◌⊎◌, inl, inr}
+use Rattle.std.specs.Prelude.{◌≤ℤ◌, ◌<ℤ◌, ◌-ℤ◌, int_le, int_lt, ◌&&◌, IsTrue}
+use Rattle.std.specs.Bool.{Decides}
+use Rattle.std.specs.Ordering.{int_eq}
+use Rattle.std.proofs.lemmas.Int.{ints, by_lt_z}
+use Rattle.std.proofs.lemmas.Bool.Decides.{Decides-int_eq, Decides-eqb, Decides-not}
+use Rattle.lin_model.specs.declared.form.FormTerm.{FormTerm}
+use Rattle.lin_model.specs.declared.op.Op.{Op}
+use Rattle.lin_model.specs.declared.op.Op.TheVariants.{Le, Ge, Eq, Ne}
+use Rattle.lin_model.specs.Test.{passes}
+use Rattle.lin_model.specs.KeyAtom.{PlainKeyAtom, KeyAtomHolds}
+use Rattle.lin_model.specs.Form.{form_value}
+use Rattle.atom_implies.specs.Implies.{TestImplies, Implies, HoldsWherever, CoveredKeysHold}
+use Rattle.atom_implies.specs.Table.{table_says}
+
+Decides-int_le : (a b : ℤ) → Decides (int_le a b) (a ≤ℤ b)
+Decides-int_le a b = (λ so. grind (arith, ints), λ le. grind (arith, ints))
+
+Decides-int_lt : (a b : ℤ) → Decides (int_lt a b) (a <ℤ b)
+Decides-int_lt a b = (λ so. grind (arith, ints), λ lt. grind (arith, ints))
+
+true_or_false : (b : Bool) → (b ≡ true) ⊎ (b ≡ false)
+true_or_false true = inl refl
+true_or_false false = inr refl
+
+-- what it means to pass a test
+abbrev Passes : Op → ℤ → ℤ → Type 0
+Passes Le c n = n ≤ℤ c
+Passes Ge c n = c ≤ℤ n
+Passes Eq c n = n ≡ c
+Passes Ne c n = n ≢ c
+
+Decides-passes : (op : Op) (c n : ℤ) → Decides (passes op c n) (Passes op c n)
+Decides-passes Le c n = Decides-int_le n c
+Decides-passes Ge c n = Decides-int_le c n
+Decides-passes Eq c n = Decides-int_eq n c
+Decides-passes Ne c n = Decides-not (int_eq n c) (Decides-int_eq n c)
+
+-- every integer that passes the one test passes the other
+abbrev Follows : Op → ℤ → Op → ℤ → Type 0
+Follows op c other d = (n : ℤ) → Passes op c n → Passes other d n
+
+-- two integers are equal or not
+int_tells : (c d : ℤ) → ((c ≡ d) × (int_eq c d ≡ true)) ⊎ (c ≢ d)
+int_tells c d = elim (true_or_false (int_eq c d)) [ inl so ↦ inl ((Decides-int_eq c d).0 so, so) | inr not_so ↦ inr (λ e. let yes = (Decides-int_eq c d).1 e in cc) ]
+
+-- one of two different integers is not c
+one_of_two : {X : Type 0} (c a b : ℤ) → a ≢ b → (a ≢ c → X) → (b ≢ c → X) → X
+one_of_two c a b differ one two = elim (int_tells a c) [ inl same ↦ two (λ e. differ (same.0 ∙ sym e)) | inr apart ↦ one apart ]
+
+Decides-table : (op : Op) (c : ℤ) (other : Op) (d : ℤ) → Decides (table_says op c other d) (Follows op c other d)
+Decides-table Le c Le d = (λ so n le. let more = (Decides-int_le c d).0 so in omega (arith, ints), λ follows. (Decides-int_le c d).1 (follows c (omega (arith, ints))))
+Decides-table Le c Ge d = (
+  λ so. absurd (cc),
+  λ follows.
+      let at_c : d ≤ℤ c = follows c (omega (arith, ints)) in
+      let below : d ≤ℤ (d -ℤ pos 1) = follows (d -ℤ pos 1) (omega (arith, ints)) in
+      absurd (omega (arith, ints)),
+)
+Decides-table Le c Eq d = (
+  λ so. absurd (cc),
+  λ follows.
+      let at_c : c ≡ d = follows c (omega (arith, ints)) in
+      let below : c -ℤ pos 1 ≡ d = follows (c -ℤ pos 1) (omega (arith, ints)) in
+      absurd (omega (arith, ints)),
+)
+Decides-table Le c Ne d = (
+  λ so n le is. let more = (Decides-int_lt c d).0 so in omega (arith, ints),
+  λ follows. (Decides-int_lt c d).1 (by_lt_z c d (λ lt. lt) (λ le. absurd (follows d le refl))),
+)
+Decides-table Ge c Le d = (
+  λ so. absurd (cc),
+  λ follows.
+      let at_c : c ≤ℤ d = follows c (omega (arith, ints)) in
+      let above : (d +ℤ pos 1) ≤ℤ d = follows (d +ℤ pos 1) (omega (arith, ints)) in
+      absurd (omega (arith, ints)),
+)
+Decides-table Ge c Ge d = (λ so n le. let more = (Decides-int_le d c).0 so in omega (arith, ints), λ follows. (Decides-int_le d c).1 (follows c (omega (arith, ints))))
+Decides-table Ge c Eq d = (
+  λ so. absurd (cc),
+  λ follows.
+      let at_c : c ≡ d = follows c (omega (arith, ints)) in
+      let above : c +ℤ pos 1 ≡ d = follows (c +ℤ pos 1) (omega (arith, ints)) in
+      absurd (omega (arith, ints)),
+)
+Decides-table Ge c Ne d = (
+  λ so n le is. let more = (Decides-int_lt d c).0 so in omega (arith, ints),
+  λ follows. (Decides-int_lt d c).1 (by_lt_z d c (λ lt. lt) (λ le. absurd (follows d le refl))),
+)
+Decides-table Eq c Le d = (λ so n is. let le = (Decides-int_le c d).0 so in omega (arith, ints), λ follows. (Decides-int_le c d).1 (follows c refl))
+Decides-table Eq c Ge d = (λ so n is. let le = (Decides-int_le d c).0 so in omega (arith, ints), λ follows. (Decides-int_le d c).1 (follows c refl))
+Decides-table Eq c Eq d = (λ so n is. let same = (Decides-int_eq c d).0 so in cc, λ follows. (Decides-int_eq c d).1 (follows c refl))
+Decides-table Eq c Ne d =
+    let apart = Decides-not (int_eq c d) (Decides-int_eq c d) in
+    (λ so n is there. apart.0 so (cc), λ follows. apart.1 (follows c refl))
+Decides-table Ne c Le d = (
+  λ so. absurd (cc),
+  λ follows.
+      let one : d +ℤ pos 1 ≢ c → (d +ℤ pos 1) ≤ℤ d = follows (d +ℤ pos 1) in
+      let two : d +ℤ pos 2 ≢ c → (d +ℤ pos 2) ≤ℤ d = follows (d +ℤ pos 2) in
+      one_of_two c (d +ℤ pos 1) (d +ℤ pos 2) (omega (arith, ints)) (λ apart. let le = one apart in absurd (omega (arith, ints))) (λ apart. let le = two apart in absurd (omega (arith, ints))),
+)
+Decides-table Ne c Ge d = (
+  λ so. absurd (cc),
+  λ follows.
+      let one : d -ℤ pos 1 ≢ c → d ≤ℤ (d -ℤ pos 1) = follows (d -ℤ pos 1) in
+      let two : d -ℤ pos 2 ≢ c → d ≤ℤ (d -ℤ pos 2) = follows (d -ℤ pos 2) in
+      one_of_two c (d -ℤ pos 1) (d -ℤ pos 2) (omega (arith, ints)) (λ apart. let le = one apart in absurd (omega (arith, ints))) (λ apart. let le = two apart in absurd (omega (arith, ints))),
+)
+Decides-table Ne c Eq d = (
+  λ so. absurd (cc),
+  λ follows.
+      let one : c +ℤ pos 1 ≡ d = follows (c +ℤ pos 1) (λ e. omega (arith, ints)) in
+      let two : c +ℤ pos 2 ≡ d = follows (c +ℤ pos 2) (λ e. omega (arith, ints)) in
+      absurd (omega (arith, ints)),
+)
+Decides-table Ne c Ne d = (
+  λ so n apart is. let same = (Decides-int_eq c d).0 so in apart (cc),
+  λ follows. elim (int_tells c d) [ inl same ↦ same.1 | inr apart ↦ absurd (follows d (λ is. apart (sym is)) refl) ],
+)
+
+-- the table against the tests themselves
+pub table_is_right : (op : Op) (c : ℤ) (other : Op) (d : ℤ) → Decides (table_says op c other d) (TestImplies op c other d)
+table_is_right op c other d =
+    let right = Decides-table op c other d in (
+      λ so n passed. (Decides-passes other d n).1 (right.0 so n ((Decides-passes op c n).0 passed)),
+      λ follows. right.1 (λ n passed. (Decides-passes other d n).0 (follows n ((Decides-passes op c n).1 passed))),
+    )
+
+-- what an atom implies holds wherever it does
+pub HoldsWherever-implied : (a b : PlainKeyAtom) → Implies a b → HoldsWherever a b
+HoldsWherever-implied a b implied point holds =
+    let value = form_value a.form point in
+    subst (λ (form : List FormTerm). IsTrue (passes b.op b.constant (form_value form point))) implied.same_form (implied.tests value holds)
+
+both_true : (a b : Bool) → (a && b) ≡ true → (a ≡ true) × (b ≡ true)
+both_true true b so = (refl, so)
+both_true false b so = absurd (cc)
+
+-- what `==` says of two terms
+pub Decides-same_term : (t u : FormTerm) → Decides (nat_eq t.var u.var && int_eq t.coef u.coef) (t ≡ u)
+Decides-same_term t u = (
+  λ so.
+      let both = both_true (nat_eq t.var u.var) (int_eq t.coef u.coef) so in
+      let var : t.var ≡ u.var = (Decides-eqb t.var u.var).0 both.0 in
+      let coef : t.coef ≡ u.coef = (Decides-int_eq t.coef u.coef).0 both.1 in
+      ap (λ (v : ℕ). let x : FormTerm = record { var = v; coef = t.coef } in x) var ∙ ap (λ (z : ℤ). let x : FormTerm = record { var = u.var; coef = z } in x) coef,
+  λ e.
+      let var = (Decides-eqb t.var u.var).1 (ap (λ (x : FormTerm). x.var) e) in
+      let coef = (Decides-int_eq t.coef u.coef).1 (ap (λ (x : FormTerm). x.coef) e) in
+      rw (var, coef) refl,
+)
+
+-- what holds a key holds every key that it covers
+pub CoveredKeysHold-lem : CoveredKeysHold
+CoveredKeysHold-lem key query point covers holds k d within =
+    let one = covers k d within in
+    let atom_holds : KeyAtomHolds one.1 point = subst (λ (a : PlainKeyAtom). KeyAtomHolds a point) one.3 (holds one.0 one.1 one.2) in
+    HoldsWherever-implied one.1 (get_or query k d) one.4 point atom_holds

@@ -1,0 +1,5 @@
+use Rattle.atom_implies.proofs.TableLemmas.{CoveredKeysHold-lem}
+use Rattle.atom_implies.proofs.laws.covered_keys_hold.Goals as goal
+
+pub returns : goal.returns
+returns c = CoveredKeysHold-lem

@@ -1,0 +1,2 @@
+pub mod Implies
+pub mod Table

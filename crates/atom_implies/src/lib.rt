@@ -1,0 +1,13 @@
+//! Implication between canonical atoms of equal form, at a counted step each.
+#![tactic(auto)]
+
+mod implication;
+mod laws;
+mod steps;
+
+pub use implication::implies;
+pub use laws::covered_keys_hold;
+pub use steps::Steps;
+
+#[cfg(test)]
+mod tests;

@@ -1,0 +1,11 @@
+mod Bits
+mod ChainLemmas
+mod NamedLemmas
+mod SpreadLemmas
+mod ListsLemmas
+mod SetLemmas
+mod ClassLemmas
+mod FrontLemmas
+mod UniqueLemmas
+mod PartitionLemmas
+mod Worked

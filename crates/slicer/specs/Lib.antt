@@ -1,0 +1,5 @@
+pub mod Names
+pub mod Linked
+pub mod Slices
+pub mod VarSets
+pub mod Laws

@@ -1,0 +1,12 @@
+//! Laws of slices, each the contract of a function that does nothing.
+ghost use Rattle.slicer.specs.Laws.{SlicesAreUnique, SlicesPartition};
+
+/// A condition has one list of slices alone.
+pub fn slices_are_unique()
+    ensures { SlicesAreUnique }
+{}
+
+/// Each variable and each atom of a condition stands in one slice, an atom with the variables that it names.
+pub fn slices_are_a_partition()
+    ensures { SlicesPartition }
+{}
