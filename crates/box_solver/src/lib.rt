@@ -1,0 +1,15 @@
+//! The search for a point that satisfies a key: a model, a refutation, or an open tree of as many splits as the budget.
+#![tactic(auto)]
+
+mod corner;
+mod found;
+mod halving;
+mod one_atom;
+mod region;
+mod search;
+#[cfg(test)]
+mod tests;
+
+pub use found::Found;
+pub use region::{Mark, TreeRegion};
+pub use search::solve;
