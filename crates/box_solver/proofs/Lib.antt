@@ -1,0 +1,5 @@
+pub mod ReadLemmas
+pub mod OneAtomLemmas
+pub mod HalvesLemmas
+pub mod CornerLemmas
+pub mod StateLemmas
