@@ -3,3 +3,5 @@ pub mod OneAtomLemmas
 pub mod HalvesLemmas
 pub mod CornerLemmas
 pub mod StateLemmas
+pub mod AnswerLemmas
+pub mod LeftLemmas

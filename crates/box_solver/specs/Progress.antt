@@ -28,6 +28,7 @@ points_in key (box ∷ boxes) = points_of key box + points_in key boxes
 
 -- the nodes and terms are a search tree with this many splits, without Left, that leaves these boxes; each closed box had a point
 pub record HasRead (key : List PlainKeyAtom) (splits : ℕ) (nodes : List Node) (terms : List LeafTerm) (boxes : List PlainBox) : Type 0 where
+  pub narrow : key_width key ≤ 64
   pub search : IsSearchTree any_split key nodes terms
   pub left : undecided_boxes key nodes terms ≡ boxes
   pub inner : inner_count nodes ≡ splits

@@ -7,7 +7,7 @@ ghost use Rattle.refutation.specs.Box.{PlainBox};
 ghost use Rattle.refutation.specs.Boxed.{IsBoxed};
 ghost use Rattle.refutation.specs.SearchTree.{any_split, IsUndecided};
 ghost use Rattle.box_solver.specs.Region.{PlainRegion, Adds, Grows};
-ghost use Rattle.box_solver.specs.OneAtom.{ClosesBy};
+ghost use Rattle.box_solver.specs.OneAtom.{ClosesBy, node_by, terms_by};
 ghost use Rattle.box_solver.specs.Progress.{IsAt, FirstIsSplit};
 ghost use Rattle.box_solver.specs.Answer.{Answers};
 
@@ -90,15 +90,22 @@ fn close_by(walk: &mut Walk, region: &mut TreeRegion, found: OneAtom) -> Result<
         → OnOk result (IsAt key base region.new splits walk.new × (walk.new ≡ rest)) }
     ensures grows { Grows region.old region.new }
 {
-    let node = match found {
+    push_leaf(region, found)?;
+    walk.close()
+}
+
+/// Appends the leaf of what closes a box by one atom.
+fn push_leaf(region: &mut TreeRegion, found: OneAtom) -> Result<(), NoMemory>
+    ensures adds { OnOk result (Adds region.old region.new (node_by found ∷ []) (terms_by found)) }
+    ensures grows { Grows region.old region.new }
+{
+    match found {
         OneAtom::Term(term) => {
             region.push_term(term)?;
-            Node::Combo { count: 1 }
+            region.push_node(Node::Combo { count: 1 })
         }
-        OneAtom::Fixed(atom) => Node::Fixed { atom },
-    };
-    region.push_node(node)?;
-    walk.close()
+        OneAtom::Fixed(atom) => region.push_node(Node::Fixed { atom }),
+    }
 }
 
 /// Splits the first box at the middle of its widest variable.
