@@ -27,11 +27,11 @@ pub left-more : (old now new : PlainRegion) (all left left' : ℕ) → 0 < left 
 left-more old now new all left left' some is adds h =
     let more : suc (all - left) ≡ all - left' = omega (arith, h.within) in
     record {
-  within = omega (arith, h.within);
-  adds = record {
-    nodes_after = adds.nodes_after ∙ ap (λ (xs : List Node). xs ++ Left ∷ []) h.adds.nodes_after ∙ append_assoc old.nodes (replicate (all - left) Left) (Left ∷ []) ∙ ap (λ (xs : List Node). old.nodes ++ xs) (replicate-push (all - left) Left) ∙ ap (λ (n : ℕ). old.nodes ++ replicate n Left) more;
-    terms_after = adds.terms_after ∙ append-nil now.terms ∙ h.adds.terms_after;
-  };
+      within = omega (arith, h.within);
+      adds = record {
+        nodes_after = adds.nodes_after ∙ ap (λ (xs : List Node). xs ++ Left ∷ []) h.adds.nodes_after ∙ append_assoc old.nodes (replicate (all - left) Left) (Left ∷ []) ∙ ap (λ (xs : List Node). old.nodes ++ xs) (replicate-push (all - left) Left) ∙ ap (λ (n : ℕ). old.nodes ++ replicate n Left) more;
+        terms_after = adds.terms_after ∙ append-nil now.terms ∙ h.adds.terms_after;
+      };
     }
 
 pub left-grows : (old new : PlainRegion) (all left : ℕ) → LeftSoFar old new all left → Grows old new

@@ -220,25 +220,29 @@ at-start key region narrow boxed short full = record {
 pub at-closed : (key : List PlainKeyAtom) (base old new : PlainRegion) (splits : ℕ) (boxes boxes' : List PlainBox) (box : PlainBox) (rest : List PlainBox) (found : OneAtom) → boxes ≡ box ∷ rest → ClosesBy key box found → boxes' ≡ drop 1 boxes → Adds old new (node_by found ∷ []) (terms_by found) → IsAt key base old splits boxes → IsAt key base new splits boxes' × (boxes' ≡ rest)
 at-closed key base old new splits boxes boxes' box rest found first closes dropped adds h =
     let next : boxes' ≡ rest = dropped ∙ ap (drop 1) first in
-    let before : HasRead key splits h.nodes h.terms (box ∷ rest) = subst (HasRead key splits h.nodes h.terms) first h.read in
-    (record {
-      nodes = h.nodes ++ node_by found ∷ [];
-      terms = h.terms ++ terms_by found;
-      adds = adds-adds base old new h.nodes (node_by found ∷ []) h.terms (terms_by found) h.adds adds;
-      read = subst (HasRead key splits (h.nodes ++ node_by found ∷ []) (h.terms ++ terms_by found)) (sym next) (read-closed key splits h.nodes h.terms box rest found before closes);
-    }, next)
+    let before : HasRead key splits h.nodes h.terms (box ∷ rest) = subst (HasRead key splits h.nodes h.terms) first h.read in (
+      record {
+        nodes = h.nodes ++ node_by found ∷ [];
+        terms = h.terms ++ terms_by found;
+        adds = adds-adds base old new h.nodes (node_by found ∷ []) h.terms (terms_by found) h.adds adds;
+        read = subst (HasRead key splits (h.nodes ++ node_by found ∷ []) (h.terms ++ terms_by found)) (sym next) (read-closed key splits h.nodes h.terms box rest found before closes);
+      },
+      next,
+    )
 
 pub at-split : (key : List PlainKeyAtom) (base old new : PlainRegion) (splits : ℕ) (boxes boxes' : List PlainBox) (box : PlainBox) (rest : List PlainBox) (v : ℕ) (cut : ℤ) → boxes ≡ box ∷ rest → IsUndecided any_split key box → IsWidest box.bounds (key_width key) v → cut ≡ middle box.bounds v → boxes' ≡ left_half box v cut ∷ right_half box v cut ∷ rest → Adds old new (Split v cut ∷ []) [] → IsAt key base old splits boxes → IsAt key base new (splits + 1) boxes' × (length boxes' ≡ length boxes + 1)
 at-split key base old new splits boxes boxes' box rest v cut first undecided w is halves adds h =
     let before : HasRead key splits h.nodes h.terms (box ∷ rest) = subst (HasRead key splits h.nodes h.terms) first h.read in
     let s = All-head (IsSearchBox key) box rest before.fit in
-    let cuts : IsCut box.bounds v (lower_or_zero box.bounds v) (upper_or_zero box.bounds v) cut = subst (IsCut box.bounds v (lower_or_zero box.bounds v) (upper_or_zero box.bounds v)) (sym is) (middle-cuts key box v h.read.narrow s undecided w) in
-    (record {
-      nodes = h.nodes ++ Split v cut ∷ [];
-      terms = h.terms ++ [];
-      adds = adds-adds base old new h.nodes (Split v cut ∷ []) h.terms [] h.adds adds;
-      read = subst (HasRead key (splits + 1) (h.nodes ++ Split v cut ∷ []) (h.terms ++ [])) (sym halves) (read-split key splits h.nodes h.terms box rest v (lower_or_zero box.bounds v) (upper_or_zero box.bounds v) cut before undecided w.below cuts);
-    }, omega (arith, ap length halves, ap length first))
+    let cuts : IsCut box.bounds v (lower_or_zero box.bounds v) (upper_or_zero box.bounds v) cut = subst (IsCut box.bounds v (lower_or_zero box.bounds v) (upper_or_zero box.bounds v)) (sym is) (middle-cuts key box v h.read.narrow s undecided w) in (
+      record {
+        nodes = h.nodes ++ Split v cut ∷ [];
+        terms = h.terms ++ [];
+        adds = adds-adds base old new h.nodes (Split v cut ∷ []) h.terms [] h.adds adds;
+        read = subst (HasRead key (splits + 1) (h.nodes ++ Split v cut ∷ []) (h.terms ++ [])) (sym halves) (read-split key splits h.nodes h.terms box rest v (lower_or_zero box.bounds v) (upper_or_zero box.bounds v) cut before undecided w.below cuts);
+      },
+      omega (arith, ap length halves, ap length first),
+    )
 
 -- the facts of the first box
 pub first-fits : (key : List PlainKeyAtom) (base region : PlainRegion) (splits : ℕ) (boxes : List PlainBox) (box : PlainBox) (rest : List PlainBox) → boxes ≡ box ∷ rest → IsAt key base region splits boxes → IsSearchBox key box

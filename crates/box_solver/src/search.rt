@@ -45,12 +45,7 @@ pub fn solve(
 }
 
 /// The search, which leaves in the region what it has built where memory runs out.
-fn search(
-    alloc: Global,
-    key: &Key,
-    budget: u32,
-    region: &mut TreeRegion,
-) -> Result<Found, NoMemory>
+fn search(alloc: Global, key: &Key, budget: u32, region: &mut TreeRegion) -> Result<Found, NoMemory>
     requires boxed { IsBoxed key.now }
     requires few { budget ≤ 100000 }
     ensures found { IfOk result (λ found. Answers key.now budget region.old region.new found) }
