@@ -1,6 +1,6 @@
 //! Worked searches, by hand.
 
-use crate::{Found, TreeRegion, solve};
+use crate::{Found, TreeRegion, is_boxed, solve};
 use lin_model::{Form, FormTerm, Key, KeyAtom, Op};
 use refutation::{LeafTerm, Node, On, refutes};
 use std::alloc::Global;
@@ -50,6 +50,9 @@ fn on_atom(number: u16) -> LeafTerm {
 fn one_split_over_wide_bounds_leaves_both_halves(rt: HostRuntime) -> Result<(), Fail> {
     let alloc = rt.alloc();
     let key = apart(alloc, LEAST, GREATEST, true)?;
+    if !is_boxed(&key) {
+        return Err(Fail::from("not boxed"));
+    }
     let mut region = TreeRegion::reserve(alloc, 1)?;
     let found = solve(alloc, &key, 1, &mut region)?;
     assert!(rt; matches!(&found, Found::Spent));
@@ -63,6 +66,9 @@ fn one_split_over_wide_bounds_leaves_both_halves(rt: HostRuntime) -> Result<(), 
 fn a_split_refutes_two_values_each(rt: HostRuntime) -> Result<(), Fail> {
     let alloc = rt.alloc();
     let key = apart(alloc, 0, 1, true)?;
+    if !is_boxed(&key) {
+        return Err(Fail::from("not boxed"));
+    }
     let mut region = TreeRegion::reserve(alloc, 4)?;
     let found = solve(alloc, &key, 4, &mut region)?;
     assert!(rt; matches!(&found, Found::Refuted));
@@ -84,6 +90,9 @@ fn a_split_refutes_two_values_each(rt: HostRuntime) -> Result<(), Fail> {
 fn the_first_corner_that_satisfies_the_key_is_the_model(rt: HostRuntime) -> Result<(), Fail> {
     let alloc = rt.alloc();
     let key = apart(alloc, 0, 1, false)?;
+    if !is_boxed(&key) {
+        return Err(Fail::from("not boxed"));
+    }
     let mut region = TreeRegion::reserve(alloc, 4)?;
     let mark = region.mark();
     match solve(alloc, &key, 4, &mut region)? {
@@ -105,6 +114,9 @@ fn the_first_corner_that_satisfies_the_key_is_the_model(rt: HostRuntime) -> Resu
 fn a_large_budget_is_spent(rt: HostRuntime) -> Result<(), Fail> {
     let alloc = rt.alloc();
     let key = apart(alloc, LEAST, GREATEST, true)?;
+    if !is_boxed(&key) {
+        return Err(Fail::from("not boxed"));
+    }
     let mut region = TreeRegion::reserve(alloc, 100_000)?;
     let found = solve(alloc, &key, 100_000, &mut region)?;
     assert!(rt; matches!(&found, Found::Spent));
