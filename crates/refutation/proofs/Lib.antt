@@ -10,3 +10,4 @@ pub mod SumLemmas
 pub mod LeafLemmas
 pub mod WalkLemmas
 pub mod ReadingLemmas
+pub mod BoxedLemmas

@@ -50,7 +50,7 @@ both_true true c h = (refl, h)
 both_true false c h = absurd (cc)
 
 -- a choice that has a value only where the test holds
-if_some : (b : Bool) (o : Option ℤ) (P : ℤ → Type 0) → (b ≡ true → IfSome o P) → IfSome (cond b o None) P
+pub if_some : (b : Bool) (o : Option ℤ) (P : ℤ → Type 0) → (b ≡ true → IfSome o P) → IfSome (cond b o None) P
 if_some true o P h = h refl
 if_some false o P h = tt
 
@@ -110,7 +110,7 @@ upper_bound-above (a ∷ atoms) v point holds =
     tighter_upper-above (cond (is_variable a.form v) (upper_by a.op a.constant) None) (upper_bound atoms v) (value_at point v) (if_some (is_variable a.form v) (upper_by a.op a.constant) (λ n. value_at point v ≤ℤ n) (λ is. upper_by-above a.op a.constant (value_at point v) (subst (λ n. IsTrue (passes a.op a.constant n)) (is_variable-value a.form v point is) (All-head (λ b. KeyAtomHolds b point) a atoms holds)))) (upper_bound-above atoms v point (All-tail (λ b. KeyAtomHolds b point) a atoms holds))
 
 -- the element at v of a list over the variables
-over_variables : (f : ℕ → Option ℤ) (v : ℕ) (Q : Option ℤ → Type 0) → Q (f v) → Q None → Q (get_or (map f variables) v None)
+pub over_variables : (f : ℕ → Option ℤ) (v : ℕ) (Q : Option ℤ → Type 0) → Q (f v) → Q None → Q (get_or (map f variables) v None)
 unfolding variables
 over_variables f v Q here past =
     ⊎_elim (λ lt. subst Q (sym (get_or-map-range_with_len f 0 64 v v None lt (omega arith))) here) (λ le. subst Q (sym (get_or_past (map f variables) v None (omega (arith, length-map-range_with_len f 0 64)))) past) (cases_lt v 64)

@@ -1,5 +1,6 @@
 pub mod Bounds
 pub mod Box
+pub mod Boxed
 pub mod Leaf
 pub mod Sum
 pub mod Reading

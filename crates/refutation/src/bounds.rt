@@ -3,6 +3,7 @@
 ghost use Rattle.std.specs.Prelude.{◌≡◌, ◌==◌, if◌then◌else◌, false, MatchOption, None, replicate, slice_set, ◌+◌, ◌^◌, ◌<◌, ◌≤◌, ℕ, ℤ, pos, IfSome, unsigned_abs};
 ghost use Rattle.lin_model.specs.KeyAtom.{AscendsBelow64};
 ghost use Rattle.lin_model.specs.Key.{IsKey};
+ghost use Rattle.refutation.specs.Boxed.{HasShortSides};
 ghost use Rattle.refutation.specs.Bounds.{AreBounds, IsSide, lower_of, upper_of, lower_from, upper_from, is_variable, tighter_lower, tighter_upper, with_lower, with_upper, lower_side, upper_side, lower_by, upper_by, key_bounds, is_empty, crosses, least, greatest};
 
 use crate::value::least_within;
@@ -33,6 +34,7 @@ impl Bounds {
     /// The bounds that the one-variable atoms of a key give, the tightest of each kind, and never tighter than their atoms: a constant beyond 2^32 is brought to 2^32, or gives no side where it bounds nothing within.
     pub fn of(key: &Key) -> Bounds
         ensures bounds { result ≡ key_bounds key.now }
+        ensures sides { HasShortSides result }
         ensures key { IsKey key.now }
     {
         let mut bounds = Bounds::unbounded();

@@ -24,3 +24,4 @@ pub use leaf::{Leaf, LeafTerm, On};
 pub use node::Node;
 pub use side::Side;
 pub use tree::Tree;
+pub use walk::Walk;

@@ -5,7 +5,8 @@ ghost use Rattle.std.specs.List.{All};
 ghost use Rattle.lin_model.specs.Key.{IsKey};
 ghost use Rattle.refutation.specs.Box.{PlainBox, root_box, left_half, right_half, on_side};
 ghost use Rattle.refutation.specs.Leaf.{combo_closes, fixed_closes};
-ghost use Rattle.refutation.specs.Bounds.{is_empty};
+ghost use Rattle.refutation.specs.Bounds.{is_empty, key_bounds};
+ghost use Rattle.refutation.specs.Boxed.{HasShortSides};
 ghost use Rattle.refutation.specs.Walk.{IsTurn, waiting, undecided};
 
 use crate::bounds::Bounds;
@@ -44,6 +45,7 @@ impl Walk {
     /// The root box of a key.
     pub fn new(alloc: Global, key: &Key) -> Walk
         ensures root { result ≡ root_box key.now ∷ [] }
+        ensures sides { HasShortSides (key_bounds key.now) }
         ensures key { IsKey key.now }
     {
         Walk {
@@ -59,6 +61,13 @@ impl Walk {
         ensures { IsTrue result ↔ (0 < length self.now) }
     {
         self.open
+    }
+
+    /// The bounds of the first box.
+    pub fn bounds(&self) -> &Bounds
+        ensures bounds { (box : PlainBox) (rest : List PlainBox) → self.now ≡ box ∷ rest → result.now ≡ box.bounds }
+    {
+        &self.bounds
     }
 
     /// Splits the first box at a cut of a variable.

@@ -1,0 +1,41 @@
+-- Left for each box that is left, one after another.
+use Rattle.std.proofs.Common.{◌≡◌, ℕ, zero, suc, ◌+◌, ◌-◌, ◌<◌, ◌≤◌, Bool, true, false, IsTrue, ◌↔◌, List, [], ◌∷◌, ◌++◌, length, drop, replicate, refl, ap, sym, ◌∙◌, subst, arith, append_assoc}
+use Rattle.std.proofs.lemmas.List.{length-drop, append-nil}
+use Rattle.refutation.specs.declared.node.Node.{Node}
+use Rattle.refutation.specs.declared.node.Node.TheVariants.{Left}
+use Rattle.refutation.specs.Box.{PlainBox}
+use Rattle.box_solver.specs.Region.{PlainRegion, Adds, Grows}
+
+-- of so many boxes so many are left, and the others have a Left each
+pub record LeftSoFar (old new : PlainRegion) (all left : ℕ) : Type 0 where
+  pub within : left ≤ all
+  pub adds : Adds old new (replicate (all - left) Left) []
+
+pub left-start : (region : PlainRegion) (all : ℕ) → LeftSoFar region region all all
+left-start region all =
+    let none : 0 ≡ all - all = omega arith in
+    record {
+      within = omega arith;
+      adds = record { nodes_after = sym (append-nil region.nodes) ∙ ap (λ (n : ℕ). region.nodes ++ replicate n Left) none; terms_after = sym (append-nil region.terms) };
+    }
+
+replicate-push : (n : ℕ) (node : Node) → replicate n node ++ node ∷ [] ≡ replicate (suc n) node
+replicate-push zero node = refl
+replicate-push (suc n) node = ap (λ (xs : List Node). node ∷ xs) (replicate-push n node)
+
+pub left-more : (old now new : PlainRegion) (all left left' : ℕ) → 0 < left → left' ≡ left - 1 → Adds now new (Left ∷ []) [] → LeftSoFar old now all left → LeftSoFar old new all left'
+left-more old now new all left left' some is adds h =
+    let more : suc (all - left) ≡ all - left' = omega (arith, h.within) in
+    record {
+      within = omega (arith, h.within);
+      adds = record {
+        nodes_after = adds.nodes_after ∙ ap (λ (xs : List Node). xs ++ Left ∷ []) h.adds.nodes_after ∙ append_assoc old.nodes (replicate (all - left) Left) (Left ∷ []) ∙ ap (λ (xs : List Node). old.nodes ++ xs) (replicate-push (all - left) Left) ∙ ap (λ (n : ℕ). old.nodes ++ replicate n Left) more;
+        terms_after = adds.terms_after ∙ append-nil now.terms ∙ h.adds.terms_after;
+      };
+    }
+
+pub left-grows : (old new : PlainRegion) (all left : ℕ) → LeftSoFar old new all left → Grows old new
+left-grows old new all left h = record { nodes = replicate (all - left) Left; terms = []; adds = h.adds }
+
+pub left-all : (old new : PlainRegion) (all left : ℕ) → left ≡ 0 → LeftSoFar old new all left → Adds old new (replicate all Left) []
+left-all old new all left none h = subst (λ n. Adds old new (replicate n Left) []) (omega arith) h.adds

@@ -1,0 +1,33 @@
+use Rattle.std.proofs.Common.{◌≡◌, ◌+◌, ◌<◌, ◌≤◌, List, ◌∷◌, length, to_z, of_z, FitsSigned, ap, ◌∙◌, rules, arith}
+use Rattle.std.specs.Int.{w64}
+use Rattle.std.proofs.lemmas.Int.{to_z-of_z}
+use Rattle.std.proofs.lemmas.Result.{IfOk-weaker}
+use Rattle.refutation.specs.Bounds.{PlainBounds}
+use Rattle.refutation.specs.Box.{left_half, right_half}
+use Rattle.refutation.specs.SearchOrder.{middle}
+use Rattle.box_solver.specs.Progress.{IsAt}
+use Rattle.box_solver.proofs.StateLemmas.{split-first, some_width, grows-pushed, at-split, widest-of}
+use Rattle.box_solver.proofs.search.halve.Goals as goal
+
+pub widest-var-requires-clause-some : goal.widest-var-requires-clause-some
+widest-var-requires-clause-some c =
+    let b = split-first c.args.key.now c.args.walk.now c.requires in
+    omega (arith, some_width c.args.key.now b.0 (omega (arith, c.width.ensures.width, c.width.ensures.within)) b.3 b.4, c.width.ensures.width)
+
+pub returns-in_err-push_node-clause-grows : goal.returns-in_err-push_node-clause-grows
+returns-in_err-push_node-clause-grows c = grows-pushed c.push_node.result c.args.region.now c.push_node.new.self _ _ c.push_node.ensures
+
+pub returns-clause-grows : goal.returns-clause-grows
+returns-clause-grows c = grows-pushed c.push_node.result c.args.region.now c.push_node.new.self _ _ c.push_node.ensures
+
+pub returns-clause-at : goal.returns-clause-at
+returns-clause-at c = λ base splits h.
+    let b = split-first c.args.key.now c.args.walk.now c.requires in
+    let fits : FitsSigned w64 c.middle-cut.result = search rules in
+    let v = c.widest-var.result in
+    let cut = to_z w64 (of_z w64 c.middle-cut.result) in
+    let first = b.2 in
+    let within = c.bounds.ensures.bounds b.0 b.1 first in
+    let within_2 = c.bounds-2.ensures.bounds b.0 b.1 first in
+    let is : cut ≡ middle b.0.bounds v = to_z-of_z w64 c.middle-cut.result fits ∙ c.middle-cut.ensures ∙ ap (λ (d : PlainBounds). middle d v) within_2 in
+    IfOk-weaker c.split.result (λ _. c.split.new.self ≡ left_half b.0 v cut ∷ right_half b.0 v cut ∷ b.1) (λ _. IsAt c.args.key.now base c.push_node.new.self (splits + 1) c.split.new.self × (length c.split.new.self ≡ length c.args.walk.now + 1)) (λ _ halves. at-split c.args.key.now base c.args.region.now c.push_node.new.self splits c.args.walk.now c.split.new.self b.0 b.1 v cut first b.4 (widest-of c.bounds.result.now b.0.bounds c.width.result _ v c.widest-var.ensures within c.width.ensures.width) is halves (c.in_ok-push_node.ensures {u = tt}) h) (c.split.ensures b.0 b.1 first)

@@ -1,0 +1,5 @@
+pub mod Region
+pub mod OneAtom
+pub mod Halving
+pub mod Progress
+pub mod Answer

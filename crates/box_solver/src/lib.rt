@@ -1,0 +1,17 @@
+//! The search for a point that satisfies a key: a model, a refutation, or an open tree of as many splits as the budget.
+#![tactic(auto)]
+
+mod boxed;
+mod corner;
+mod found;
+mod halving;
+mod one_atom;
+mod region;
+mod search;
+#[cfg(test)]
+mod tests;
+
+pub use boxed::is_boxed;
+pub use found::Found;
+pub use region::{Mark, TreeRegion};
+pub use search::solve;

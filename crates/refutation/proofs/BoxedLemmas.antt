@@ -1,0 +1,88 @@
+-- The sides of a key's bounds are at most 2^32 in size; which keys are boxed, by hand.
+use Rattle.std.proofs.Common.{◌≡◌, ℕ, zero, suc, ◌^◌, ◌<◌, ◌≤◌, ℤ, pos, negsuc, neg_ℤ, Bool, true, false, cond, Option, Some, None, IfSome, List, [], ◌∷◌, unsigned_abs, arith, refl, sym, subst, int_lt}
+use Rattle.std.specs.Int.{int_min, int_max}
+use Rattle.std.proofs.lemmas.Int.{ints, clamps}
+use Rattle.lin_model.specs.declared.op.Op.{Op}
+use Rattle.lin_model.specs.declared.op.Op.TheVariants.{Le, Ge, Eq, Ne}
+use Rattle.lin_model.specs.KeyAtom.{PlainKeyAtom}
+use Rattle.refutation.proofs.Points.{over_variables, if_some}
+use Rattle.refutation.specs.Bounds.{PlainBounds, side_limit, lower_of, upper_of, lower_side, upper_side, lower_by, upper_by, is_variable, tighter_lower, tighter_upper, lower_bound, upper_bound, key_bounds, variables}
+use Rattle.refutation.specs.Boxed.{HasBothSides, IsBoxedIn, IsBoxed, HasShortSides}
+
+-- a side of at most 2^32 in size
+abbrev Short : Option ℤ → Type 0
+Short o = IfSome o (λ n. unsigned_abs n ≤ 2 ^ 32)
+
+unless : (b : Bool) (m : ℤ) → (b ≡ false → unsigned_abs m ≤ 2 ^ 32) → Short (cond b None (Some m))
+unless true m h = tt
+unless false m h = h refl
+
+lower_side-short : (c : ℤ) → Short (lower_side c)
+lower_side-short c = unless (int_lt c (neg_ℤ side_limit)) (int_min c side_limit) (λ h. omega (arith, ints, clamps))
+
+upper_side-short : (c : ℤ) → Short (upper_side c)
+upper_side-short c = unless (int_lt side_limit c) (int_max c (neg_ℤ side_limit)) (λ h. omega (arith, ints, clamps))
+
+lower_by-short : (op : Op) (c : ℤ) → Short (lower_by op c)
+lower_by-short Le c = tt
+lower_by-short Ge c = lower_side-short c
+lower_by-short Eq c = lower_side-short c
+lower_by-short Ne c = tt
+
+upper_by-short : (op : Op) (c : ℤ) → Short (upper_by op c)
+upper_by-short Le c = upper_side-short c
+upper_by-short Ge c = tt
+upper_by-short Eq c = upper_side-short c
+upper_by-short Ne c = tt
+
+tighter_lower-short : (o q : Option ℤ) → Short o → Short q → Short (tighter_lower o q)
+tighter_lower-short None q f g = g
+tighter_lower-short (Some m) None f g = f
+tighter_lower-short (Some m) (Some n) f g = omega (arith, ints, clamps)
+
+tighter_upper-short : (o q : Option ℤ) → Short o → Short q → Short (tighter_upper o q)
+tighter_upper-short None q f g = g
+tighter_upper-short (Some m) None f g = f
+tighter_upper-short (Some m) (Some n) f g = omega (arith, ints, clamps)
+
+lower_bound-short : (atoms : List PlainKeyAtom) (v : ℕ) → Short (lower_bound atoms v)
+lower_bound-short [] v = tt
+lower_bound-short (a ∷ atoms) v =
+    tighter_lower-short (cond (is_variable a.form v) (lower_by a.op a.constant) None) (lower_bound atoms v) (if_some (is_variable a.form v) (lower_by a.op a.constant) (λ n. unsigned_abs n ≤ 2 ^ 32) (λ _. lower_by-short a.op a.constant)) (lower_bound-short atoms v)
+
+upper_bound-short : (atoms : List PlainKeyAtom) (v : ℕ) → Short (upper_bound atoms v)
+upper_bound-short [] v = tt
+upper_bound-short (a ∷ atoms) v =
+    tighter_upper-short (cond (is_variable a.form v) (upper_by a.op a.constant) None) (upper_bound atoms v) (if_some (is_variable a.form v) (upper_by a.op a.constant) (λ n. unsigned_abs n ≤ 2 ^ 32) (λ _. upper_by-short a.op a.constant)) (upper_bound-short atoms v)
+
+pub key_bounds-short : (key : List PlainKeyAtom) → HasShortSides (key_bounds key)
+unfolding key_bounds
+key_bounds-short key = record {
+  lower = λ v. over_variables (lower_bound key) v (λ o. IfSome o (λ n. unsigned_abs n ≤ 2 ^ 32)) (lower_bound-short key v) tt;
+  upper = λ v. over_variables (upper_bound key) v (λ o. IfSome o (λ n. unsigned_abs n ≤ 2 ^ 32)) (upper_bound-short key v) tt;
+}
+
+pub bounds-short : (b : PlainBounds) (key : List PlainKeyAtom) → b ≡ key_bounds key → HasShortSides b
+bounds-short b key is = subst HasShortSides (sym is) (key_bounds-short key)
+
+-- ---- by hand
+
+-- `v0 <= hi`, or `v0 >= lo`
+abbrev alone : Op → ℤ → PlainKeyAtom
+alone op c = record { form = record { var = 0; coef = pos 1 } ∷ []; op = op; constant = c }
+
+-- `v0 <= 1`, `v0 >= 0` is boxed
+check_boxed : IsBoxed (alone Le (pos 1) ∷ alone Ge (pos 0) ∷ [])
+unfolding key_bounds variables
+check_boxed zero lt = record { lower = refl; upper = refl }
+check_boxed (suc v) lt = absurd (omega arith)
+
+-- `v0 <= 1`, `v0 != 0` is not: no lower side
+check_not_boxed : ¬ IsBoxed (alone Le (pos 1) ∷ alone Ne (pos 0) ∷ [])
+unfolding key_bounds variables
+check_not_boxed h = let no_side : false ≡ true = (h 0 (omega arith)).lower in absurd (cc)
+
+-- `v0 >= 4294967297` and `v0 <= -4294967297`: sides of 2^32 in size
+check_short : (lower_of (key_bounds (alone Ge (pos 4294967297) ∷ [])) 0 ≡ Some (pos 4294967296)) × (upper_of (key_bounds (alone Le (negsuc 4294967296) ∷ [])) 0 ≡ Some (negsuc 4294967295))
+unfolding key_bounds variables
+check_short = (refl, refl)

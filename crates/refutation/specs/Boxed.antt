@@ -1,0 +1,23 @@
+-- Boxed keys: both sides of every variable are there, and no side of a key's bounds is beyond 2^32 in size.
+use Rattle.std.specs.Prelude.{◌≡◌, ℕ, ◌^◌, ◌<◌, ◌≤◌, true, IfSome, is_some, List, unsigned_abs}
+use Rattle.lin_model.specs.KeyAtom.{PlainKeyAtom}
+use Rattle.lin_model.specs.Key.{key_width}
+use Rattle.refutation.specs.Bounds.{PlainBounds, lower_of, upper_of, key_bounds}
+
+-- both sides of the variable are there
+pub record HasBothSides (b : PlainBounds) (v : ℕ) : Type 0 where
+  pub lower : is_some (lower_of b v) ≡ true
+  pub upper : is_some (upper_of b v) ≡ true
+
+-- every variable of the key has both sides within the bounds
+abbrev pub IsBoxedIn : List PlainKeyAtom → PlainBounds → Type 0
+IsBoxedIn key b = (v : ℕ) → v < key_width key → HasBothSides b v
+
+-- every variable of the key has both sides
+abbrev pub IsBoxed : List PlainKeyAtom → Type 0
+IsBoxed key = IsBoxedIn key (key_bounds key)
+
+-- no side is beyond 2^32 in size
+pub record HasShortSides (b : PlainBounds) : Type 0 where
+  pub lower : (v : ℕ) → IfSome (lower_of b v) (λ n. unsigned_abs n ≤ 2 ^ 32)
+  pub upper : (v : ℕ) → IfSome (upper_of b v) (λ n. unsigned_abs n ≤ 2 ^ 32)
