@@ -1,5 +1,5 @@
 -- What a text spells is a condition.
-use Rattle.std.proofs.Common.{◌≡◌, ℕ, Bool, false, List, [], ◌∷◌, ◌++◌, All, sym, subst, inl, inr}
+use Rattle.std.proofs.Common.{ℕ, Bool, false, List, [], ◌∷◌, ◌++◌, All, sym, subst, inl, inr}
 use Rattle.std.proofs.lemmas.List.Elements.{All-nil, All-cons}
 use Rattle.lin_model.specs.Terms.{PlainVar, PlainTerm, VarFits, TermFits}
 use Rattle.lin_model.specs.Conditions.{PlainCondition, IsCondition, AtomFits}

@@ -1,5 +1,5 @@
 -- Small sessions: which are read so far.
-use Rattle.std.specs.Prelude.{◌≡◌, ◌≢◌, ℕ, ◌+◌, ◌<◌, ◌≤◌, Bool, false, ◌==◌, List, [], ◌∷◌, length, count_by, ℤ, pos, ◌≤ℤ◌, All, IsSome, Option, Some, None, codes}
+use Rattle.std.specs.Prelude.{◌≡◌, ◌≢◌, ℕ, ◌+◌, ◌<◌, ◌≤◌, Bool, false, ◌==◌, List, [], ◌∷◌, length, count_by, pos, ◌≤ℤ◌, All, IsSome, Option, Some, None, codes}
 use Rattle.lin_model.specs.Terms.{PlainVar, PlainTerm}
 use Rattle.lin_model.specs.Conditions.{PlainCondition, IsCondition}
 use Rattle.lin_model.specs.declared.atom.Atom.{Atom}

@@ -21,7 +21,10 @@ mod token;
 mod write;
 
 pub use fault::{SessionFault, SessionKind, TextFault, TextKind};
-pub use laws::{one_first_fault, spelled_has_no_fault, spelled_once, written_is_spelled, written_is_spelled_within};
+pub use laws::{
+    one_first_fault, spelled_has_no_fault, spelled_once, written_is_spelled,
+    written_is_spelled_within,
+};
 pub use lines::next_line;
 pub use push::{push_integer, push_number, push_str};
 pub use query::read_query;
