@@ -36,3 +36,5 @@ mod NoFaultLines
 mod NoFaultCompared
 mod NoFaultDeclared
 mod NoFault
+mod Longest
+mod SpelledOrFault

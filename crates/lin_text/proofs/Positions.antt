@@ -168,7 +168,7 @@ tokens_total (suc n) p bytes at le few =
           (t ∷ rest.0, (refl, subst (λ (b : Bool). MatchBool b (rest.0 ≡ []) (AreTokens p bytes t.to rest.0)) (sym e) rest.1))
     ] refl
 
-first_line-bounds : (begins : Bool) (at : ℕ) (bs : List ℕ) → (at ≤ first_line begins at bs) × (first_line begins at bs ≤ at + length bs)
+pub first_line-bounds : (begins : Bool) (at : ℕ) (bs : List ℕ) → (at ≤ first_line begins at bs) × (first_line begins at bs ≤ at + length bs)
 unfolding first_line
 first_line-bounds begins at [] = (omega arith, omega arith)
 first_line-bounds begins at (b ∷ bs) =

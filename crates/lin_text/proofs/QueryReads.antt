@@ -84,7 +84,7 @@ names-push : (lines : List PlainLine) (line : PlainLine) → declared_names (lin
 names-push lines line =
     flat_map-append (λ (l : PlainLine). declared_name (pieces l.tokens)) lines (line ∷ []) ∙ ap (λ (xs : List (List ℕ)). declared_names lines ++ xs) (append-nil (declared_name (pieces line.tokens)))
 
-count-push : (test : PlainLine → Bool) (lines : List PlainLine) (line : PlainLine) → count_by test (lines ++ line ∷ []) ≡ count_by test lines + cond (test line) 1 0
+pub count-push : (test : PlainLine → Bool) (lines : List PlainLine) (line : PlainLine) → count_by test (lines ++ line ∷ []) ≡ count_by test lines + cond (test line) 1 0
 count-push test lines line =
     sum_by-append (λ (l : PlainLine). cond (test l) 1 0) lines (line ∷ []) ∙ (let same : count_by test lines + (0 + cond (test line) 1 0) ≡ count_by test lines + cond (test line) 1 0 = omega arith in same)
 
@@ -312,7 +312,7 @@ range_stands above ts front after t e none h =
     none h.0 (t.piece ∷ pieces after) (ap pieces e ∙ pieces-split front after t ∙ ap (λ (ps : List Piece). ps ++ t.piece ∷ pieces after) h.1) h.2
 
 -- no fault stands in a clean line
-clean_stands : (above : List PlainLine) (ts front after : List PlainToken) (t : PlainToken) → IsClean above ts → ts ≡ front ++ t ∷ after → (k : TextKind) → Stands above (pieces front) t.piece (pieces after) k → ⊥
+pub clean_stands : (above : List PlainLine) (ts front after : List PlainToken) (t : PlainToken) → IsClean above ts → ts ≡ front ++ t ∷ after → (k : TextKind) → Stands above (pieces front) t.piece (pieces after) k → ⊥
 clean_stands above ts front after t clean e k h =
     elim (is_range k) [
       | inl is ↦ range_stands above ts front after t e clean.not_empty (subst (λ (j : TextKind). Stands above (pieces front) t.piece (pieces after) j) is h)

@@ -1,10 +1,11 @@
 -- Laws of the texts of conditions.
-use Rattle.std.specs.Prelude.{◌≡◌, ℕ, ◌+◌, Bool, false, ◌⊎◌, List, [], ◌++◌, length}
+use Rattle.std.specs.Prelude.{◌≡◌, ℕ, ◌+◌, ◌<◌, ◌≤◌, Bool, false, ◌⊎◌, List, [], ◌++◌, length, take}
 use Rattle.lin_model.specs.Conditions.{PlainCondition, IsCondition}
 use Rattle.lin_text.specs.Spelling.{condition_text}
 use Rattle.lin_text.specs.Pieces.{word, first_token}
 use Rattle.lin_text.specs.declared.fault.TextKind.{TextKind}
 use Rattle.lin_text.specs.Queries.{Spells, HasFault}
+use Rattle.lin_text.specs.Tokens.{IsForm, IsLongest, token_length}
 
 -- the plain spelling of a condition is spelled as that condition, to its end
 abbrev pub WrittenIsSpelled : Type 0
@@ -33,3 +34,18 @@ SpelledHasNoFault =
 abbrev pub OneFirstFault : Type 0
 OneFirstFault =
     (in_proof : Bool) (bytes : List ℕ) (at : ℕ) (k j : TextKind) (a b : ℕ) → HasFault in_proof bytes at k a → HasFault in_proof bytes at j b → (k ≡ j) × (a ≡ b)
+
+-- the length of a token is that of the longest token at the front, and 0 exactly where none begins there
+pub record TakesTheLongest (bytes : List ℕ) : Type 0 where
+  pub longest : 0 < token_length bytes → IsLongest bytes (token_length bytes)
+  pub none : token_length bytes ≡ 0 → (n : ℕ) → n ≤ length bytes → ¬ IsForm (take n bytes)
+
+-- so it is in every text
+abbrev pub TokensAreLongest : Type 0
+TokensAreLongest = (bytes : List ℕ) → TakesTheLongest bytes
+
+-- a text spells a condition from a place on, or has a first fault
+abbrev pub SpelledOrFaulty : Type 0
+SpelledOrFaulty =
+    (in_proof : Bool) (bytes : List ℕ) (at : ℕ) → at ≤ length bytes
+    → ((q : PlainCondition) × (end : ℕ) × Spells in_proof bytes at q end) ⊎ ((kind : TextKind) × (place : ℕ) × HasFault in_proof bytes at kind place)

@@ -1,5 +1,5 @@
 //! Laws of the texts of conditions, each the contract of a function that does nothing.
-ghost use Rattle.lin_text.specs.Laws.{OneFirstFault, SpelledHasNoFault, SpelledOnce, WrittenIsSpelled, WrittenIsSpelledWithin};
+ghost use Rattle.lin_text.specs.Laws.{OneFirstFault, SpelledHasNoFault, SpelledOnce, SpelledOrFaulty, TokensAreLongest, WrittenIsSpelled, WrittenIsSpelledWithin};
 
 /// What is written for a condition is spelled as that condition, in the sense of the grammar.
 pub fn written_is_spelled()
@@ -24,4 +24,14 @@ pub fn spelled_has_no_fault()
 /// A text has at most one first fault, at one place.
 pub fn one_first_fault()
     ensures { OneFirstFault }
+{}
+
+/// Where a token begins, the longest one is taken.
+pub fn tokens_are_longest()
+    ensures { TokensAreLongest }
+{}
+
+/// A text spells a condition or has a fault.
+pub fn spelled_or_faulty()
+    ensures { SpelledOrFaulty }
 {}

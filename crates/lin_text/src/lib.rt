@@ -22,8 +22,8 @@ mod write;
 
 pub use fault::{SessionFault, SessionKind, TextFault, TextKind};
 pub use laws::{
-    one_first_fault, spelled_has_no_fault, spelled_once, written_is_spelled,
-    written_is_spelled_within,
+    one_first_fault, spelled_has_no_fault, spelled_once, spelled_or_faulty, tokens_are_longest,
+    written_is_spelled, written_is_spelled_within,
 };
 pub use lines::next_line;
 pub use push::{push_integer, push_number, push_str};
