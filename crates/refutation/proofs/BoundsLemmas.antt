@@ -1,12 +1,11 @@
 -- Bounds, side by side.
-use Rattle.std.proofs.Common.{◌≡◌, ℕ, zero, suc, ◌+◌, ◌-◌, ◌*◌, ◌^◌, ◌<◌, ◌≤◌, ℤ, pos, negsuc, ◌+ℤ◌, ◌*ℤ◌, ◌≤ℤ◌, ◌<ℤ◌, Bool, true, false, cond, ◌||◌, eqb, Option, Some, None, IfSome, List, [], ◌∷◌, map, length, get_or, set, drop, unsigned_abs, replicate, ◌⊎◌, ⊎_elim, refl, ap, sym, ◌∙◌, subst, arith}
-use Rattle.std.specs.Int.{int_max, int_min, w128}
-use Rattle.std.specs.List.{All, list_any, range_with_len}
-use Rattle.std.specs.Option.{option_map}
+use Rattle.std.proofs.Common.{◌≡◌, ℕ, zero, suc, ◌+◌, ◌<◌, ◌≤◌, ℤ, pos, ◌+ℤ◌, Bool, true, false, cond, ◌||◌, eqb, Option, Some, None, List, [], ◌∷◌, length, get_or, set, drop, replicate, ⊎_elim, refl, ap, sym, ◌∙◌, subst, arith}
+use Rattle.std.specs.Int.{int_max, int_min}
+use Rattle.std.specs.List.{list_any, range_with_len}
 use Rattle.std.proofs.lemmas.Bool.{cases_lt}
 use Rattle.std.proofs.lemmas.Bool.Decides.{nat_tests}
 use Rattle.std.proofs.lemmas.Int.{ints, clamps}
-use Rattle.std.proofs.lemmas.List.{get_or-set_same, get_or-set_other, length-set, length-replicate, drop_more}
+use Rattle.std.proofs.lemmas.List.{get_or-set_same, get_or-set_other, length-replicate, drop_more}
 use Rattle.std.proofs.Math.ListN.{drop_of_length-le}
 use Rattle.std.proofs.lemmas.List.Elements.{All-same, All-replicate}
 use Rattle.std.proofs.lemmas.List.FromFn.{fill_by_all}

@@ -1,15 +1,14 @@
 -- A point that satisfies the key is in no closed box.
-use Rattle.std.proofs.Common.{◌≡◌, ℕ, zero, suc, ◌+◌, ◌<◌, ◌≤◌, ◌^◌, ℤ, pos, negsuc, neg_ℤ, ◌+ℤ◌, ◌-ℤ◌, ◌*ℤ◌, ◌≤ℤ◌, ◌<ℤ◌, Bool, true, false, not, cond, ◌&&◌, Option, Some, None, IfSome, IsTrue, List, [], ◌∷◌, map, length, slice_get, refl, ap, sym, ◌∙◌, subst, arith, int_lt, int_le, nat_le, inl, inr, ⊎_elim}
+use Rattle.std.proofs.Common.{◌≡◌, ℕ, ◌<◌, ℤ, pos, negsuc, neg_ℤ, ◌-ℤ◌, ◌*ℤ◌, ◌≤ℤ◌, ◌<ℤ◌, Bool, true, false, not, ◌&&◌, Option, Some, None, IfSome, List, [], ◌∷◌, length, slice_get, refl, ap, sym, ◌∙◌, subst, arith, int_lt, nat_le, ⊎_elim}
 use Rattle.std.specs.List.{All, list_any}
-use Rattle.std.specs.Option.{option_map, option_and_then, option_map_or}
+use Rattle.std.specs.Option.{option_map, option_map_or}
 use Rattle.std.specs.Ordering.{int_eq}
 use Rattle.std.proofs.lemmas.Int.{ints}
-use Rattle.std.proofs.lemmas.List.Elements.{All-nil, All-cons, All-head, All-tail}
-use Rattle.lin_model.specs.declared.form.FormTerm.{FormTerm}
+use Rattle.std.proofs.lemmas.List.Elements.{All-nil, All-cons}
 use Rattle.lin_model.specs.declared.op.Op.{Op}
 use Rattle.lin_model.specs.declared.op.Op.TheVariants.{Le, Ge, Eq, Ne}
 use Rattle.lin_model.specs.Form.{value_at, form_value}
-use Rattle.lin_model.specs.KeyAtom.{PlainKeyAtom, KeyAtomHolds, IsCanonical}
+use Rattle.lin_model.specs.KeyAtom.{PlainKeyAtom, KeyAtomHolds}
 use Rattle.lin_model.specs.Key.{KeyHolds, IsKey}
 use Rattle.lin_model.specs.Test.{passes}
 use Rattle.refutation.specs.declared.side.Side.{Side}
@@ -21,7 +20,7 @@ use Rattle.refutation.specs.Box.{PlainBox, beside, side_atom, IsInBox}
 use Rattle.refutation.specs.Leaf.{PlainLeaf, combo, fixed, empty, named, is_factor, is_positive_factor, weight, weighted, Multiple, multiple_of, multiples_of, summed_constant, summed_form, is_positive_sum, combo_closes, fails_fixed, fixed_closes, closes}
 use Rattle.refutation.proofs.Arithmetic.{scale_up, scale_down}
 use Rattle.refutation.proofs.Points.{int_eq-same}
-use Rattle.refutation.proofs.Tests.{and_true, or_true, not_both, chosen, test_found, bound_some, mapped_some, All-at}
+use Rattle.refutation.proofs.LookUps.{and_true, or_true, not_both, chosen, test_found, bound_some, mapped_some, All-at}
 use Rattle.refutation.proofs.Sums.{least-below, greatest-above, total_of, summed_form-value}
 
 -- ---- an empty box has no point

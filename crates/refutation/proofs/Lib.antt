@@ -1,6 +1,6 @@
 pub mod Worked
 pub mod Arithmetic
-pub mod Tests
+pub mod LookUps
 pub mod Points
 pub mod Sums
 pub mod ClosedBoxes

@@ -1,13 +1,12 @@
 -- Where the points that satisfy a key lie: in the key's bounds, and after a split in one of the halves.
-use Rattle.std.proofs.Common.{◌≡◌, ℕ, zero, suc, ◌+◌, ◌<◌, ◌≤◌, ℤ, pos, negsuc, neg_ℤ, ◌+ℤ◌, ◌-ℤ◌, ◌*ℤ◌, ◌≤ℤ◌, ◌<ℤ◌, Bool, true, false, not, cond, Option, Some, None, IfSome, IsTrue, List, [], ◌∷◌, ◌++◌, map, length, get_or, set, slice_get, ◌⊎◌, inl, inr, ⊎_elim, refl, ap, sym, ◌∙◌, subst, arith, eqb, eqb-true, int_lt, int_le}
+use Rattle.std.proofs.Common.{◌≡◌, ℕ, zero, suc, ℤ, pos, neg_ℤ, ◌+ℤ◌, ◌-ℤ◌, ◌*ℤ◌, ◌≤ℤ◌, ◌<ℤ◌, Bool, true, false, not, cond, Option, Some, None, IfSome, IsTrue, List, [], ◌∷◌, map, get_or, set, slice_get, ◌⊎◌, inl, inr, ⊎_elim, refl, ap, sym, subst, arith, eqb, eqb-true, int_lt, int_le}
 use Rattle.std.specs.Int.{int_min, int_max}
 use Rattle.std.specs.declared.cmp.Ordering.{Ordering}
 use Rattle.std.specs.declared.cmp.Ordering.TheVariants.{Less, Equal, Greater}
 use Rattle.std.specs.Ordering.{int_eq, int_cmp, is_eq, MatchOrdering}
-use Rattle.std.specs.Option.{option_map, option_map_or}
+use Rattle.std.specs.Option.{option_map}
 use Rattle.std.proofs.lemmas.Bool.{cases_lt}
 use Rattle.std.proofs.lemmas.Cmp.{int_ranked}
-use Rattle.std.specs.List.{All, range_with_len}
 use Rattle.std.proofs.lemmas.Int.{ints, clamps, by_lt_z}
 use Rattle.std.proofs.lemmas.List.{get_or_past}
 use Rattle.std.proofs.lemmas.List.FromFn.{get_or-map-range_with_len, length-map-range_with_len}
@@ -20,8 +19,7 @@ use Rattle.lin_model.specs.Form.{value_at, form_value}
 use Rattle.lin_model.specs.KeyAtom.{PlainKeyAtom, KeyAtomHolds}
 use Rattle.lin_model.specs.Key.{KeyHolds}
 use Rattle.lin_model.specs.Test.{passes}
-use Rattle.refutation.proofs.Tests.{All-at, test_found}
-use Rattle.refutation.specs.declared.side.Side.{Side}
+use Rattle.refutation.proofs.LookUps.{All-at, test_found}
 use Rattle.refutation.specs.Bounds.{PlainBounds, lower_of, upper_of, variables, side_limit, lower_side, upper_side, is_variable, lower_by, upper_by, tighter_lower, tighter_upper, lower_bound, upper_bound, key_bounds, with_lower, with_upper, IsWithin}
 use Rattle.refutation.specs.Box.{PlainBox, root_box, beside, side_atom, IsInBox, is_ne, is_ne_op, left_half, right_half, on_side}
 use Rattle.refutation.specs.Reading.{names_ne}

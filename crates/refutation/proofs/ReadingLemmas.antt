@@ -1,5 +1,5 @@
 -- One node of a tree after another: what the code's answers say of the reading.
-use Rattle.std.proofs.Common.{◌≡◌, ℕ, ℤ, zero, suc, ◌+◌, ◌-◌, ◌<◌, ◌≤◌, Bool, true, false, cond, ◌&&◌, Option, Some, None, Result, IfOk, IsTrue, ◌↔◌, List, [], ◌∷◌, ◌++◌, length, get_or, take, drop, nat_le, refl, ap, sym, ◌∙◌, subst, arith, add-one}
+use Rattle.std.proofs.Common.{◌≡◌, ℕ, ℤ, ◌+◌, ◌-◌, ◌<◌, ◌≤◌, Bool, true, false, cond, ◌&&◌, Option, Some, None, Result, IfOk, IsTrue, ◌↔◌, List, [], ◌∷◌, ◌++◌, length, get_or, take, drop, nat_le, refl, ap, sym, ◌∙◌, subst, arith, add-one}
 use Rattle.std.specs.Option.{option_map_or}
 use Rattle.std.proofs.lemmas.List.{drop_more, length-drop, drop-drop}
 use Rattle.std.proofs.Math.Seq.{take-length}
@@ -11,11 +11,11 @@ use Rattle.refutation.specs.declared.leaf.LeafTerm.{LeafTerm}
 use Rattle.refutation.specs.declared.node.Node.{Node}
 use Rattle.refutation.specs.declared.node.Node.TheVariants.{Split, NeSplit, Combo, Fixed, Empty, Left}
 use Rattle.refutation.specs.Bounds.{is_empty}
-use Rattle.refutation.specs.Box.{PlainBox, root_box, left_half, right_half, on_side}
+use Rattle.refutation.specs.Box.{PlainBox, left_half, right_half, on_side}
 use Rattle.refutation.specs.Leaf.{combo_closes, fixed_closes}
 use Rattle.refutation.specs.Reading.{is_split, names_ne, Treated, treated, Ending, refuted, fails_at, ends_early, goes_on, reading}
 use Rattle.refutation.specs.Walk.{Puts, Treats}
-use Rattle.refutation.proofs.Tests.{and_true}
+use Rattle.refutation.proofs.LookUps.{and_true}
 
 -- ---- one node
 

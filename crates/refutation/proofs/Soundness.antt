@@ -1,5 +1,5 @@
 -- A key that a tree refutes has no point.
-use Rattle.std.proofs.Common.{◌≡◌, ℕ, suc, ℤ, Bool, true, false, cond, ◌&&◌, Option, Some, None, List, [], ◌∷◌, ◌++◌, length, take, drop, nat_le, ◌⊎◌, inl, inr, ⊎_elim, refl, subst, sym, ap, ◌∙◌}
+use Rattle.std.proofs.Common.{◌≡◌, ℕ, suc, ℤ, true, false, ◌&&◌, Option, Some, None, List, [], ◌∷◌, ◌++◌, length, take, drop, nat_le, ◌⊎◌, inl, inr, ⊎_elim, refl, subst}
 use Rattle.std.specs.Option.{option_map_or}
 use Rattle.lin_model.specs.KeyAtom.{PlainKeyAtom}
 use Rattle.lin_model.specs.Key.{KeyHolds, IsKey}
@@ -8,8 +8,8 @@ use Rattle.refutation.specs.declared.node.Node.{Node}
 use Rattle.refutation.specs.declared.node.Node.TheVariants.{Split, NeSplit, Combo, Fixed, Empty, Left}
 use Rattle.refutation.specs.Box.{PlainBox, root_box, IsInBox, left_half, right_half, on_side}
 use Rattle.refutation.specs.Leaf.{combo, fixed, empty, closes}
-use Rattle.refutation.specs.Reading.{Treated, treated, closed_by, is_split, names_ne, Ending, refuted, fails_at, ends_early, goes_on, reading, Refutes, HasNoPoint}
-use Rattle.refutation.proofs.Tests.{and_true, chosen}
+use Rattle.refutation.specs.Reading.{Treated, treated, is_split, names_ne, Ending, refuted, fails_at, reading, Refutes, HasNoPoint}
+use Rattle.refutation.proofs.LookUps.{and_true, chosen}
 use Rattle.refutation.proofs.Points.{root_box-has, split-covers, sides-cover}
 use Rattle.refutation.proofs.ClosedBoxes.{AreNarrow, closes-none, IsKey-narrow}
 

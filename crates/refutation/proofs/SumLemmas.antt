@@ -1,6 +1,6 @@
 -- Sums kept as one coefficient for each variable.
-use Rattle.std.proofs.Common.{◌≡◌, ◌≢◌, ℕ, zero, suc, ◌+◌, ◌*◌, ◌^◌, ◌<◌, ◌≤◌, ℤ, pos, negsuc, ◌+ℤ◌, ◌-ℤ◌, ◌*ℤ◌, Bool, true, false, cond, eqb, Option, Some, None, List, [], ◌∷◌, map, length, get_or, set, drop, replicate, unsigned_abs, ◌⊎◌, inl, inr, ⊎_elim, refl, ap, sym, ◌∙◌, subst, arith}
-use Rattle.std.specs.List.{All, range_with_len}
+use Rattle.std.proofs.Common.{◌≡◌, ℕ, zero, suc, ◌+◌, ◌*◌, ◌^◌, ◌<◌, ◌≤◌, ℤ, pos, ◌+ℤ◌, ◌*ℤ◌, Bool, true, false, cond, eqb, Option, Some, None, List, [], ◌∷◌, length, get_or, set, drop, replicate, unsigned_abs, ⊎_elim, refl, ap, sym, ◌∙◌, subst, arith}
+use Rattle.std.specs.List.{All}
 use Rattle.std.proofs.lemmas.Bool.{cases_lt}
 use Rattle.std.proofs.lemmas.Bool.Decides.{nat_tests}
 use Rattle.std.proofs.lemmas.Int.{ints, unsigned_abs-mul}
@@ -15,7 +15,6 @@ use Rattle.refutation.specs.Bounds.{PlainBounds, lower_of, upper_of, variables, 
 use Rattle.refutation.specs.Leaf.{coefficient_of, Multiple}
 use Rattle.refutation.specs.Sum.{PlainSum, coef_at, dense_form, AddsMultiple, IsSum}
 use Rattle.refutation.proofs.Arithmetic.{distrib_left}
-use Rattle.refutation.proofs.Points.{set-keeps}
 use Rattle.refutation.proofs.BoundsLemmas.{least_step, least_missing, least_end}
 
 -- ---- the sum of nothing

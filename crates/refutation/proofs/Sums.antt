@@ -1,7 +1,6 @@
 -- The least value of a form bounds its values in a box, and a sum of multiples is worth what its parts are worth.
-use Rattle.std.proofs.Common.{◌≡◌, ℕ, zero, suc, ◌+◌, ◌<◌, ◌≤◌, ◌≢◌, ℤ, pos, negsuc, neg_ℤ, ◌+ℤ◌, ◌-ℤ◌, ◌*ℤ◌, ◌≤ℤ◌, ◌<ℤ◌, Bool, true, false, cond, Option, Some, None, IfSome, IsTrue, List, [], ◌∷◌, map, length, refl, ap, sym, ◌∙◌, subst, arith, eqb, eqb-true, eq-eqb, inl, inr, ⊎_elim}
+use Rattle.std.proofs.Common.{◌≡◌, ℕ, zero, suc, ◌+◌, ◌<◌, ◌≤◌, ◌≢◌, ℤ, pos, negsuc, ◌+ℤ◌, ◌*ℤ◌, ◌≤ℤ◌, cond, Option, Some, None, IfSome, List, [], ◌∷◌, map, refl, ap, arith, eqb, ⊎_elim}
 use Rattle.std.specs.List.{All, range_with_len}
-use Rattle.std.specs.Option.{option_map}
 use Rattle.std.proofs.lemmas.Int.{ints}
 use Rattle.std.proofs.lemmas.Bool.{cases_lt}
 use Rattle.std.proofs.lemmas.Bool.Decides.{nat_tests}
@@ -9,7 +8,7 @@ use Rattle.std.proofs.lemmas.List.Elements.{All-head, All-tail}
 use Rattle.lin_model.specs.declared.form.FormTerm.{FormTerm}
 use Rattle.lin_model.specs.Form.{value_at, form_value}
 use Rattle.refutation.specs.Bounds.{PlainBounds, lower_of, upper_of, variables, add_known, scaled_side, least, greatest, IsWithin}
-use Rattle.refutation.specs.Leaf.{coefficient_of, Multiple, summed_coefficient, summed_constant, summed_form}
+use Rattle.refutation.specs.Leaf.{coefficient_of, Multiple, summed_coefficient, summed_form}
 use Rattle.refutation.proofs.Arithmetic.{distrib_right, distrib_left, times_assoc, scale_up, scale_down}
 
 -- ---- the least and the greatest value

@@ -1,17 +1,16 @@
 -- The definitions on small worked values, as the checker computes them.
-use Rattle.std.proofs.Common.{◌≡◌, ℕ, ℤ, pos, negsuc, neg_ℤ, true, false, List, [], ◌∷◌, Option, Some, None, refl}
+use Rattle.std.proofs.Common.{◌≡◌, ℕ, ℤ, pos, negsuc, true, List, [], ◌∷◌, Some, None, refl}
 use Rattle.lin_model.specs.declared.form.FormTerm.{FormTerm}
 use Rattle.lin_model.specs.declared.op.Op.{Op}
 use Rattle.lin_model.specs.declared.op.Op.TheVariants.{Le, Ge, Eq, Ne}
 use Rattle.lin_model.specs.KeyAtom.{PlainKeyAtom}
 use Rattle.refutation.specs.declared.leaf.LeafTerm.{LeafTerm}
 use Rattle.refutation.specs.declared.leaf.On.TheVariants.{Atom as OnAtom, Side as OnSide}
-use Rattle.refutation.specs.declared.node.Node.{Node}
 use Rattle.refutation.specs.declared.node.Node.TheVariants.{Split, NeSplit, Combo, Fixed, Empty, Left}
 use Rattle.refutation.specs.Bounds.{variables, lower_of, upper_of, key_bounds, is_empty, least, greatest}
 use Rattle.refutation.specs.Box.{root_box}
 use Rattle.refutation.specs.Leaf.{combo_closes, fixed_closes, summed_form, is_positive_sum}
-use Rattle.refutation.specs.Reading.{Refutes, FailsAt, EndsEarly, GoesOn, treated, reading, refuted, fails_at, ends_early, goes_on}
+use Rattle.refutation.specs.Reading.{Refutes, FailsAt, EndsEarly, GoesOn, treated, reading}
 use Rattle.refutation.specs.Cut.{cut, upper_cut, lower_cut}
 use Rattle.refutation.specs.SearchOrder.{step, lowest_corner}
 use Rattle.refutation.specs.SearchTree.{room}

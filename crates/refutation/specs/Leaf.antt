@@ -1,5 +1,5 @@
 -- What closes a box.
-use Rattle.std.specs.Prelude.{◌≡◌, ℕ, suc, ◌+◌, ◌^◌, ◌≤◌, ℤ, pos, neg_ℤ, ◌+ℤ◌, ◌-ℤ◌, ◌*ℤ◌, Bool, true, false, not, ◌&&◌, ◌||◌, if◌then◌else◌, ◌==◌, int_lt, nat_le, Option, Some, None, IsTrue, List, [], ◌∷◌, map, length, unsigned_abs, slice_get, ◌⊎◌}
+use Rattle.std.specs.Prelude.{ℕ, ◌^◌, ℤ, pos, neg_ℤ, ◌+ℤ◌, ◌-ℤ◌, ◌*ℤ◌, Bool, true, false, not, ◌&&◌, ◌||◌, if◌then◌else◌, ◌==◌, int_lt, nat_le, Option, Some, None, IsTrue, List, [], ◌∷◌, map, length, unsigned_abs, slice_get}
 use Rattle.std.specs.Option.{option_map, option_and_then, option_map_or}
 use Rattle.std.specs.Ordering.{int_eq}
 use Rattle.lin_model.specs.declared.form.FormTerm.{FormTerm}

@@ -1,5 +1,5 @@
 -- How the nodes of a tree are read over a list of undecided boxes, and what a tree refutes.
-use Rattle.std.specs.Prelude.{◌≡◌, ℕ, zero, suc, ◌^◌, ℤ, Bool, true, false, ◌&&◌, if◌then◌else◌, nat_lt, nat_le, Option, Some, None, List, [], ◌∷◌, ◌++◌, length, take, drop, unsigned_abs, slice_get}
+use Rattle.std.specs.Prelude.{◌≡◌, ℕ, suc, ◌^◌, ℤ, Bool, true, false, ◌&&◌, if◌then◌else◌, nat_lt, nat_le, Option, Some, None, List, [], ◌∷◌, ◌++◌, length, take, drop, unsigned_abs, slice_get}
 use Rattle.std.specs.Option.{option_map_or}
 use Rattle.lin_model.specs.KeyAtom.{PlainKeyAtom}
 use Rattle.lin_model.specs.Key.{KeyHolds}
@@ -7,7 +7,7 @@ use Rattle.refutation.specs.declared.leaf.LeafTerm.{LeafTerm}
 use Rattle.refutation.specs.declared.node.Node.{Node}
 use Rattle.refutation.specs.declared.node.Node.TheVariants.{Split, NeSplit, Combo, Fixed, Empty, Left}
 use Rattle.refutation.specs.Box.{PlainBox, root_box, is_ne, left_half, right_half, on_side}
-use Rattle.refutation.specs.Leaf.{PlainLeaf, combo, fixed, empty, closes}
+use Rattle.refutation.specs.Leaf.{combo, fixed, empty, closes}
 
 -- a variable and a cut that a split may have
 abbrev pub is_split : ℕ → ℤ → Bool

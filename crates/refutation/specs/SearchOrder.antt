@@ -1,5 +1,5 @@
 -- The order of the search: the node that a box asks for.
-use Rattle.std.specs.Prelude.{◌≡◌, ℕ, suc, ℤ, pos, ◌+ℤ◌, ◌-ℤ◌, Bool, true, false, not, ◌&&◌, if◌then◌else◌, ◌==◌, int_lt, Option, Some, None, List, [], ◌∷◌, map}
+use Rattle.std.specs.Prelude.{ℕ, suc, ℤ, pos, ◌+ℤ◌, ◌-ℤ◌, Bool, if◌then◌else◌, ◌==◌, int_lt, Option, Some, None, List, [], ◌∷◌, map}
 use Rattle.std.specs.List.{list_any, range_with_len}
 use Rattle.std.specs.Option.{unwrap_or, option_map, option_map_or}
 use Rattle.lin_model.specs.declared.form.FormTerm.{FormTerm}
@@ -9,7 +9,6 @@ use Rattle.lin_model.specs.Key.{key_width}
 use Rattle.lin_model.specs.Test.{passes}
 use Rattle.refutation.specs.declared.node.Node.{Node}
 use Rattle.refutation.specs.declared.node.Node.TheVariants.{Split, NeSplit}
-use Rattle.refutation.specs.declared.side.Side.{Side}
 use Rattle.refutation.specs.Bounds.{PlainBounds, lower_of, upper_of}
 use Rattle.refutation.specs.Box.{PlainBox, is_ne}
 use Rattle.refutation.specs.Cut.{PlainCut, cut, floor_div}

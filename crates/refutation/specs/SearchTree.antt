@@ -1,5 +1,5 @@
 -- Trees of a search: finished ones, and open ones, whose undecided boxes are marked.
-use Rattle.std.specs.Prelude.{◌≡◌, ◌≢◌, ℕ, zero, suc, ◌+◌, ◌*◌, ◌<◌, ℤ, pos, ◌-ℤ◌, Bool, true, false, if◌then◌else◌, int_lt, Option, Some, None, IfSome, IsSomeAnd, IsTrue, List, [], ◌∷◌, ◌++◌, unsigned_abs}
+use Rattle.std.specs.Prelude.{◌≡◌, ◌≢◌, ℕ, suc, ◌*◌, ◌<◌, ℤ, ◌-ℤ◌, Bool, true, false, if◌then◌else◌, int_lt, Option, Some, None, IfSome, IsSomeAnd, List, [], ◌∷◌, ◌++◌, unsigned_abs}
 use Rattle.std.specs.List.{All, count_by, range_with_len, list_any}
 use Rattle.std.specs.Option.{option_map_or}
 use Rattle.lin_model.specs.KeyAtom.{PlainKeyAtom}

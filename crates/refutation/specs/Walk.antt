@@ -1,10 +1,9 @@
 -- The walk over a tree: one box at hand, and the turns that lead to it from the root.
-use Rattle.std.specs.Prelude.{◌≡◌, ℕ, ◌-◌, ◌^◌, ◌<◌, ◌≤◌, ℤ, Bool, true, false, Option, Some, None, List, [], ◌∷◌, ◌++◌, length, take, drop, unsigned_abs, slice_set, if◌then◌else◌, reverse}
-use Rattle.refutation.specs.declared.side.Side.{Side}
+use Rattle.std.specs.Prelude.{◌≡◌, ℕ, ◌-◌, ◌^◌, ◌<◌, ◌≤◌, Bool, true, false, Option, Some, None, List, [], ◌∷◌, ◌++◌, length, take, drop, unsigned_abs, slice_set, if◌then◌else◌, reverse}
 use Rattle.refutation.specs.declared.leaf.LeafTerm.{LeafTerm}
 use Rattle.refutation.specs.declared.turn.Turn.{Turn}
 use Rattle.refutation.specs.declared.turn.Turn.TheVariants.{SplitLeft, SplitRight, NeLeft, NeRight}
-use Rattle.refutation.specs.Bounds.{PlainBounds, IsSide}
+use Rattle.refutation.specs.Bounds.{IsSide}
 use Rattle.refutation.specs.Box.{PlainBox, right_half, on_side}
 use Rattle.refutation.specs.Reading.{Treated}
 

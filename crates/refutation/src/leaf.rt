@@ -1,5 +1,7 @@
 //! Leaves: the ways to close a box.
 
+ghost use Rattle.std.specs.Prelude.{◌≡◌};
+
 use arrayvec::ArrayVec;
 
 /// What a term of a combination names, by its number from 0.
@@ -12,6 +14,10 @@ pub enum On {
 }
 
 impl Default for On {
+    ghost use Rattle.refutation.specs.declared.leaf.On.TheVariants.{Atom};
+
+    ghost is_default = { λ on. on ≡ Atom 0 };
+
     fn default() -> On {
         On::Atom(0)
     }

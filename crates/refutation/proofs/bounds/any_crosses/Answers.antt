@@ -1,5 +1,4 @@
-use Rattle.std.proofs.Common.{◌≡◌, sym, ◌∙◌, arith, true, false}
-use Rattle.refutation.specs.Bounds.{PlainBounds, crosses, lower_of, upper_of}
+use Rattle.std.proofs.Common.{sym, ◌∙◌, arith}
 use Rattle.refutation.proofs.BoundsLemmas.{is_empty-true, is_empty-false}
 use Rattle.refutation.proofs.bounds.any_crosses.Goals as goal
 

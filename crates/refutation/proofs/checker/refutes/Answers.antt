@@ -1,10 +1,9 @@
-use Rattle.std.proofs.Common.{◌≡◌, ◌≤◌, ◌+◌, ℕ, pos, length, drop, get_or, Option, Some, None, ap, sym, ◌∙◌, subst, arith, Fits, w64}
+use Rattle.std.proofs.Common.{◌≡◌, ◌≤◌, ◌+◌, pos, length, drop, get_or, subst, arith}
 use Rattle.refutation.specs.declared.leaf.LeafTerm.{LeafTerm}
 use Rattle.refutation.specs.declared.leaf.On.TheVariants.{Atom as OnAtom}
 use Rattle.refutation.specs.declared.node.Node.{Node}
 use Rattle.refutation.specs.declared.node.Node.TheVariants.{Split}
-use Rattle.refutation.specs.Reading.{reading, tree_reading, refuted, fails_at}
-use Rattle.refutation.specs.Walk.{Treats}
+use Rattle.refutation.specs.Reading.{reading, tree_reading, fails_at}
 use Rattle.refutation.proofs.ReadingLemmas.{no_box, some_box, Treats-rest, reading-goes_on, reading-fails, reading-step, reading-ends, reading-all, reading-refuted, reading-term_left}
 use Rattle.refutation.proofs.Soundness.{Refutes-no_point}
 use Rattle.refutation.proofs.checker.refutes.Goals as goal

@@ -1,7 +1,7 @@
-use Rattle.std.proofs.Common.{true, false, List, [], ◌∷◌, ℕ, ◌≤◌, ◌&&◌, nat_le, length, take, to_z, of_z, FitsSigned, rules}
+use Rattle.std.proofs.Common.{true, false, [], ◌∷◌, ◌&&◌, nat_le, length, take, to_z, of_z, FitsSigned, rules}
 use Rattle.std.specs.Int.{w64}
 use Rattle.std.proofs.lemmas.Int.{to_z-of_z}
-use Rattle.refutation.specs.Box.{PlainBox, left_half, right_half, on_side}
+use Rattle.refutation.specs.Box.{left_half, right_half, on_side}
 use Rattle.refutation.specs.Leaf.{combo_closes}
 use Rattle.refutation.specs.Reading.{is_split, names_ne}
 use Rattle.refutation.proofs.ReadingLemmas.{TreatsFirst-from_puts, Treats-split, Treats-split_ne, Treats-combo, Treats-fixed, Treats-empty, Treats-left}

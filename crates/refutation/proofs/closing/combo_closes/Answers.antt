@@ -1,11 +1,10 @@
-use Rattle.std.proofs.Common.{◌≡◌, ◌<◌, ◌≤◌, ap, sym, ◌∙◌, subst, take, length, false, arith, Option, List, eqb-true}
+use Rattle.std.proofs.Common.{◌≡◌, ◌<◌, ap, sym, ◌∙◌, subst, take, length, false, arith, Option, List, eqb-true}
 use Rattle.std.specs.Option.{option_map_or}
-use Rattle.std.proofs.lemmas.List.{length-take}
 use Rattle.refutation.specs.declared.leaf.LeafTerm.{LeafTerm}
 use Rattle.refutation.specs.declared.leaf.On.TheVariants.{Atom as OnAtom}
 use Rattle.refutation.specs.Box.{PlainBox}
-use Rattle.refutation.specs.Leaf.{Multiple, is_positive_sum, combo_closes}
-use Rattle.refutation.proofs.LeafLemmas.{IsSummed, IsSummed-none, IsSummed-more, IsSummed-positive, multiples_of-fails, combo_closes-empty, combo_closes-long, combo_closes-is}
+use Rattle.refutation.specs.Leaf.{Multiple, is_positive_sum}
+use Rattle.refutation.proofs.LeafLemmas.{IsSummed, IsSummed-more, IsSummed-positive, multiples_of-fails, combo_closes-empty, combo_closes-long, combo_closes-is}
 use Rattle.refutation.proofs.closing.combo_closes.Goals as goal
 use Rattle.refutation.proofs.closing.combo_closes.Goals.{then-is_empty-via-then-is_empty, then-is_empty-via-else-is_empty+then-terms-gt8}
 use Rattle.std.proofs.Common.{ℕ, pos}

@@ -1,4 +1,4 @@
-use Rattle.std.proofs.Common.{◌≡◌, Option, List, ℤ, ap, sym, ◌∙◌}
+use Rattle.std.proofs.Common.{Option, List, ℤ, ap, sym, ◌∙◌}
 use Rattle.lin_model.specs.declared.form.FormTerm.{FormTerm}
 use Rattle.refutation.specs.Bounds.{least, greatest}
 use Rattle.refutation.specs.Leaf.{fails_fixed}

@@ -1,4 +1,4 @@
-use Rattle.std.proofs.Common.{pos, sym, ◌∙◌, arith}
+use Rattle.std.proofs.Common.{sym, arith}
 use Rattle.std.proofs.lemmas.Int.{ints}
 use Rattle.refutation.proofs.SumLemmas.{dense_step, dense_missing, dense_end}
 use Rattle.refutation.proofs.sum.least_of.Goals as goal

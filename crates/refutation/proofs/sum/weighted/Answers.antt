@@ -1,6 +1,6 @@
-use Rattle.std.proofs.Common.{FitsSigned, ℤ, to_z, of_z, ◌*ℤ◌, ◌∙◌, ap, arith}
+use Rattle.std.proofs.Common.{FitsSigned, ℤ, to_z, of_z, ◌*ℤ◌, ◌∙◌, ap}
 use Rattle.std.specs.Int.{w64, w128}
-use Rattle.std.proofs.lemmas.Int.{to_z-of_z, ints}
+use Rattle.std.proofs.lemmas.Int.{to_z-of_z}
 use Rattle.refutation.proofs.SumLemmas.{weighted_size}
 use Rattle.refutation.proofs.sum.weighted.Goals as goal
 

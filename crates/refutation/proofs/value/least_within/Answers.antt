@@ -1,7 +1,6 @@
-use Rattle.std.proofs.Common.{pos, sym, ◌∙◌, arith}
+use Rattle.std.proofs.Common.{pos, sym, arith}
 use Rattle.std.proofs.lemmas.Int.{ints}
 use Rattle.lin_model.specs.declared.form.FormTerm.{FormTerm}
-use Rattle.refutation.specs.Bounds.{PlainBounds}
 use Rattle.refutation.proofs.BoundsLemmas.{least_step, least_missing, least_end}
 use Rattle.refutation.proofs.value.least_within.Goals as goal
 

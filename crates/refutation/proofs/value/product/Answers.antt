@@ -1,6 +1,5 @@
-use Rattle.std.proofs.Common.{◌≡◌, to_z, of_z}
-use Rattle.std.specs.Int.{w64, w128}
-use Rattle.std.proofs.Common.{FitsSigned, ◌∙◌, arith}
+use Rattle.std.specs.Int.{w128}
+use Rattle.std.proofs.Common.{arith}
 use Rattle.std.proofs.lemmas.Int.{to_z-of_z, ints}
 use Rattle.refutation.proofs.Arithmetic.{product_is_exact, product_is_small}
 use Rattle.refutation.proofs.value.product.Goals as goal

@@ -1,8 +1,8 @@
-use Rattle.std.proofs.Common.{◌≡◌, Option, Some, None, List, [], ◌∷◌, ◌++◌, true, false, subst, sym, ap, ◌∙◌, reverse, arith}
+use Rattle.std.proofs.Common.{Option, Some, List, true, subst, sym, ap, ◌∙◌, arith}
 use Rattle.std.proofs.lemmas.List.Elements.{All-pop}
 use Rattle.refutation.specs.declared.turn.Turn.{Turn}
 use Rattle.refutation.specs.Box.{PlainBox}
-use Rattle.refutation.specs.Walk.{IsTurn, MovesOn, undecided, waiting}
+use Rattle.refutation.specs.Walk.{IsTurn, MovesOn, undecided}
 use Rattle.refutation.proofs.WalkLemmas.{waiting-back, waiting-over, waiting-none, none_of_len}
 use Rattle.refutation.proofs.walk.next_box.Goals as goal
 

@@ -1,4 +1,4 @@
-use Rattle.std.proofs.Common.{subst, sym, arith, ap, length}
+use Rattle.std.proofs.Common.{arith, ap, length}
 use Rattle.refutation.proofs.BoundsLemmas.{AscendsBelow64-few}
 use Rattle.refutation.proofs.bounds.Bounds.least.Goals as goal
 

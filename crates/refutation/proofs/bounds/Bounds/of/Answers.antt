@@ -1,6 +1,6 @@
-use Rattle.std.proofs.Common.{◌≡◌, ap, sym, ◌∙◌, subst, arith, List}
+use Rattle.std.proofs.Common.{ap, ◌∙◌, subst}
 use Rattle.lin_model.specs.KeyAtom.{PlainKeyAtom}
-use Rattle.refutation.specs.Bounds.{PlainBounds, AreBounds, lower_of, upper_of, lower_from, upper_from, lower_bound, upper_bound, tighter_lower, tighter_upper}
+use Rattle.refutation.specs.Bounds.{AreBounds, lower_of, upper_of, lower_from, upper_from, tighter_lower, tighter_upper}
 use Rattle.refutation.proofs.BoundsLemmas.{lower_step, upper_step, lower_end, upper_end, key_bounds-from_each}
 use Rattle.refutation.proofs.BoxedLemmas.{bounds-short}
 use Rattle.refutation.proofs.bounds.Bounds.of.Goals as goal

@@ -1,8 +1,8 @@
-use Rattle.std.proofs.Common.{◌≡◌, ℕ, ℤ, pos, ◌<◌, ◌≤◌, ◌+◌, ◌*◌, ◌^◌, ◌+ℤ◌, ◌*ℤ◌, to_z, of_z, unsigned_abs, length, get_or, ap, sym, ◌∙◌, arith, subst, refl}
+use Rattle.std.proofs.Common.{◌≡◌, ◌<◌, ◌≤◌, ◌+◌, ◌^◌, to_z, of_z, unsigned_abs, ap, arith, subst, refl}
 use Rattle.std.specs.Int.{w64, w128}
 use Rattle.std.proofs.lemmas.Int.{to_z-of_z, ints}
-use Rattle.refutation.specs.Leaf.{coefficient_of, Multiple}
-use Rattle.refutation.specs.Sum.{PlainSum, AddsMultiple, IsSum}
+use Rattle.refutation.specs.Leaf.{Multiple}
+use Rattle.refutation.specs.Sum.{PlainSum, AddsMultiple}
 use Rattle.refutation.proofs.SumLemmas.{IsSum-more, AddsMultiple-from_parts, constant_size}
 use Rattle.refutation.proofs.sum.Sum.add.Goals as goal
 use Rattle.refutation.proofs.sum.Sum.add.Goals.{After-sum_of-self-inside}

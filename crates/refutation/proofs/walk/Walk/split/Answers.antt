@@ -1,4 +1,4 @@
-use Rattle.std.proofs.Common.{ℤ, List, ◌∷◌, to_z, of_z, ap, ◌∙◌}
+use Rattle.std.proofs.Common.{ℤ, ◌∷◌, to_z, of_z, ap, ◌∙◌}
 use Rattle.std.specs.Int.{w64}
 use Rattle.std.proofs.lemmas.Int.{to_z-of_z}
 use Rattle.refutation.specs.Box.{left_half, right_half}

@@ -1,4 +1,4 @@
-use Rattle.std.proofs.Common.{sym, ◌∙◌}
+use Rattle.std.proofs.Common.{◌∙◌}
 use Rattle.refutation.proofs.WalkLemmas.{walk-split_ne}
 use Rattle.refutation.proofs.walk.Walk.split_ne.Goals as goal
 
