@@ -1,23 +1,20 @@
 -- What a search that has ended answers.
-use Rattle.std.proofs.Common.{◌≡◌, ℕ, ◌+◌, ◌^◌, ◌<◌, ◌≤◌, ℤ, Bool, true, false, cond, Option, Some, None, List, [], ◌∷◌, ◌++◌, length, replicate, unsigned_abs, refl, ap, sym, ◌∙◌, subst, arith}
+use Rattle.std.proofs.Common.{◌≡◌, ℕ, ◌≤◌, ℤ, Bool, true, cond, Some, None, List, [], ◌∷◌, ◌++◌, length, replicate, refl, ap, sym, ◌∙◌, subst, arith}
 use Rattle.std.specs.Option.{IsSomeAnd, option_map_or}
-use Rattle.std.specs.List.{All, list_any}
 use Rattle.lin_model.specs.KeyAtom.{PlainKeyAtom}
-use Rattle.lin_model.specs.Key.{KeyHolds, key_width}
+use Rattle.lin_model.specs.Key.{KeyHolds}
 use Rattle.lin_model.specs.Point.{IsPoint}
-use Rattle.refutation.specs.declared.leaf.LeafTerm.{LeafTerm}
-use Rattle.refutation.specs.declared.node.Node.{Node}
 use Rattle.refutation.specs.declared.node.Node.TheVariants.{Empty, Left}
 use Rattle.refutation.specs.Bounds.{key_bounds, is_empty}
-use Rattle.refutation.specs.Box.{PlainBox, root_box}
-use Rattle.refutation.specs.Reading.{Treated, treated, reading, refuted, fails_at}
+use Rattle.refutation.specs.Box.{PlainBox}
+use Rattle.refutation.specs.Reading.{Treated, treated, reading, fails_at}
 use Rattle.refutation.specs.SearchOrder.{lowest_corner}
-use Rattle.refutation.specs.SearchTree.{any_split, IsUndecided, Searches, undecided_boxes, inner_count, is_left, IsOpenTree}
-use Rattle.box_solver.specs.Region.{PlainRegion, Adds}
+use Rattle.refutation.specs.SearchTree.{any_split, IsUndecided, Searches, IsOpenTree}
+use Rattle.box_solver.specs.Region.{PlainRegion}
 use Rattle.box_solver.specs.Answer.{IsFirstCorner, IsModelTree, IsRefutingTree, IsSpentTree}
 use Rattle.box_solver.specs.Progress.{HasRead, IsAt}
 use Rattle.box_solver.proofs.CornerLemmas.{corner-length}
-use Rattle.box_solver.proofs.StateLemmas.{adds-adds, read-open, read-refutes, below_room}
+use Rattle.box_solver.proofs.StateLemmas.{read-open, read-refutes, below_room}
 
 pub model-tree : (key : List PlainKeyAtom) (base region : PlainRegion) (splits budget : ℕ) (boxes : List PlainBox) (box : PlainBox) (rest : List PlainBox) (point : List ℤ) (h : IsAt key base region splits boxes) → boxes ≡ box ∷ rest → splits ≤ budget → point ≡ lowest_corner key box.bounds → IsPoint point → KeyHolds key point → IsModelTree key budget point h.nodes h.terms
 model-tree key base region splits budget boxes box rest point h first few corner limits holds = record {

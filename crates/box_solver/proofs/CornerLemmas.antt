@@ -1,14 +1,14 @@
 -- Where every variable has one value, no atom with one value fails exactly where the corner satisfies the key.
-use Rattle.std.proofs.Common.{◌≡◌, ℕ, zero, suc, ◌+◌, ◌<◌, ◌≤◌, max, ℤ, pos, negsuc, ◌+ℤ◌, ◌-ℤ◌, ◌*ℤ◌, ◌≤ℤ◌, ◌<ℤ◌, Bool, true, false, not, cond, ◌&&◌, Option, Some, None, is_some, IsTrue, List, [], ◌∷◌, map, length, get_or, slice_get, ◌⊎◌, inl, inr, ⊎_elim, refl, ap, sym, ◌∙◌, subst, arith, int_lt}
-use Rattle.std.specs.Option.{option_map, option_map_or, unwrap_or}
+use Rattle.std.proofs.Common.{◌≡◌, ℕ, zero, suc, ◌<◌, ◌≤◌, ℤ, pos, negsuc, ◌*ℤ◌, ◌≤ℤ◌, ◌<ℤ◌, Bool, true, false, not, ◌&&◌, Option, Some, None, is_some, IsTrue, List, [], ◌∷◌, length, get_or, slice_get, refl, ap, sym, ◌∙◌, arith, int_lt}
+use Rattle.std.specs.Option.{option_map_or, unwrap_or}
 use Rattle.std.specs.Ordering.{int_eq}
-use Rattle.std.specs.List.{All, range_with_len}
+use Rattle.std.specs.List.{All}
 use Rattle.std.proofs.lemmas.Cmp.{int_eq_equiv}
 use Rattle.std.proofs.lemmas.Int.{ints, by_lt_z}
 use Rattle.std.proofs.lemmas.List.FromFn.{get_or-map-range_with_len, length-map-range_with_len}
 use Rattle.lin_model.specs.declared.form.FormTerm.{FormTerm}
 use Rattle.lin_model.specs.Form.{value_at, form_value, form_width}
-use Rattle.lin_model.specs.KeyAtom.{PlainKeyAtom, KeyAtomHolds, IsCanonical}
+use Rattle.lin_model.specs.KeyAtom.{PlainKeyAtom, IsCanonical}
 use Rattle.lin_model.specs.Key.{KeyHolds, key_width, IsKey}
 use Rattle.lin_model.specs.Test.{passes}
 use Rattle.refutation.specs.Bounds.{PlainBounds, lower_of, upper_of, crosses, add_known, scaled_side, least, greatest}
@@ -18,7 +18,7 @@ use Rattle.refutation.specs.SearchOrder.{lowest_corner, lower_or_zero, upper_or_
 use Rattle.box_solver.specs.Halving.{IsWidest}
 use Rattle.box_solver.specs.OneAtom.{NoFixedCloses}
 use Rattle.box_solver.specs.Progress.{IsSearchBox}
-use Rattle.box_solver.proofs.HalvesLemmas.{not_crossed, IsCut}
+use Rattle.box_solver.proofs.HalvesLemmas.{not_crossed}
 
 -- ---- the width of a key
 

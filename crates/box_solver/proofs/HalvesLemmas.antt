@@ -1,5 +1,5 @@
 -- The halves of a box: neither is empty, and they share the box's points.
-use Rattle.std.proofs.Common.{◌≡◌, ◌≢◌, ℕ, zero, suc, ◌+◌, ◌*◌, ◌^◌, ◌<◌, ◌≤◌, ℤ, pos, negsuc, ◌+ℤ◌, ◌-ℤ◌, ◌≤ℤ◌, ◌<ℤ◌, Bool, true, false, cond, Option, Some, None, IfSome, is_some, List, [], ◌∷◌, length, get_or, set, unsigned_abs, ◌⊎◌, inl, inr, ⊎_elim, refl, ap, sym, ◌∙◌, subst, arith, int_lt}
+use Rattle.std.proofs.Common.{◌≡◌, ◌≢◌, ℕ, zero, suc, ◌+◌, ◌*◌, ◌^◌, ◌<◌, ◌≤◌, ℤ, pos, ◌+ℤ◌, ◌-ℤ◌, ◌≤ℤ◌, ◌<ℤ◌, Bool, true, false, cond, Option, Some, None, IfSome, is_some, List, length, get_or, unsigned_abs, ⊎_elim, refl, ap, sym, ◌∙◌, subst, arith, int_lt}
 use Rattle.std.specs.Int.{int_min, int_max}
 use Rattle.std.specs.List.{range_with_len}
 use Rattle.std.proofs.lemmas.Bool.{cases_lt}
@@ -9,7 +9,7 @@ use Rattle.lin_model.specs.KeyAtom.{PlainKeyAtom}
 use Rattle.lin_model.specs.Key.{key_width}
 use Rattle.refutation.specs.Bounds.{PlainBounds, lower_of, upper_of, with_lower, with_upper, crosses, is_empty, tighter_lower, tighter_upper}
 use Rattle.refutation.specs.Box.{PlainBox, left_half, right_half}
-use Rattle.refutation.specs.Boxed.{HasBothSides, IsBoxedIn, HasShortSides}
+use Rattle.refutation.specs.Boxed.{HasShortSides}
 use Rattle.refutation.specs.SearchTree.{number_between, points_over, IsFairSplit}
 use Rattle.refutation.proofs.BoundsLemmas.{is_empty-true, is_empty-false}
 use Rattle.box_solver.specs.Progress.{IsSearchBox, points_of}

@@ -1,9 +1,8 @@
 -- Left for each box that is left, one after another.
-use Rattle.std.proofs.Common.{◌≡◌, ℕ, zero, suc, ◌+◌, ◌-◌, ◌<◌, ◌≤◌, Bool, true, false, IsTrue, ◌↔◌, List, [], ◌∷◌, ◌++◌, length, drop, replicate, refl, ap, sym, ◌∙◌, subst, arith, append_assoc}
-use Rattle.std.proofs.lemmas.List.{length-drop, append-nil}
+use Rattle.std.proofs.Common.{◌≡◌, ℕ, zero, suc, ◌-◌, ◌<◌, ◌≤◌, List, [], ◌∷◌, ◌++◌, replicate, refl, ap, sym, ◌∙◌, subst, arith, append_assoc}
+use Rattle.std.proofs.lemmas.List.{append-nil}
 use Rattle.refutation.specs.declared.node.Node.{Node}
 use Rattle.refutation.specs.declared.node.Node.TheVariants.{Left}
-use Rattle.refutation.specs.Box.{PlainBox}
 use Rattle.box_solver.specs.Region.{PlainRegion, Adds, Grows}
 
 -- of so many boxes so many are left, and the others have a Left each

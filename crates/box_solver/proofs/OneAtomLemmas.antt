@@ -1,5 +1,5 @@
 -- A box without sides that isn't empty is closed by one atom only by a unit term of an atom, or by an atom with one value.
-use Rattle.std.proofs.Common.{◌≡◌, ℕ, zero, suc, ◌+◌, ◌<◌, ◌≤◌, ℤ, pos, negsuc, neg_ℤ, Bool, true, false, not, cond, ◌&&◌, ◌||◌, Option, Some, None, IsTrue, List, [], ◌∷◌, length, get_or, slice_get, nat_le, ◌⊎◌, inl, inr, ⊎_elim, refl, ap, sym, ◌∙◌, subst, arith}
+use Rattle.std.proofs.Common.{◌≡◌, ℕ, ◌≤◌, ℤ, pos, negsuc, neg_ℤ, Bool, true, false, ◌||◌, Option, Some, None, List, [], ◌∷◌, length, slice_get, ◌⊎◌, inl, inr, ⊎_elim, refl, ap, ◌∙◌}
 use Rattle.std.specs.Option.{option_map_or, option_and_then}
 use Rattle.std.specs.Ordering.{int_eq}
 use Rattle.std.proofs.lemmas.Bool.{cases_lt}
@@ -11,9 +11,9 @@ use Rattle.refutation.specs.declared.leaf.On.TheVariants.{Atom as OnAtom, Side a
 use Rattle.refutation.specs.declared.side.Side.{Side}
 use Rattle.refutation.specs.Bounds.{PlainBounds, is_empty, least, greatest}
 use Rattle.refutation.specs.Box.{PlainBox, side_atom}
-use Rattle.refutation.specs.Leaf.{PlainLeaf, combo, fixed, empty, closes, Multiple, multiple_of, multiples_of, named, weighted, is_positive_sum, is_unit, is_by_one, combo_closes, fixed_closes, fails_fixed, ClosedByOneAtom}
+use Rattle.refutation.specs.Leaf.{PlainLeaf, combo, fixed, empty, closes, Multiple, named, weighted, is_positive_sum, is_unit, is_by_one, combo_closes, fixed_closes, fails_fixed, ClosedByOneAtom}
 use Rattle.refutation.proofs.Points.{int_eq-same}
-use Rattle.box_solver.specs.OneAtom.{unit_term, NoUnitCloses, NoTermCloses, NoFixedCloses, NoAtomCloses}
+use Rattle.box_solver.specs.OneAtom.{NoTermCloses, NoAtomCloses}
 
 -- a term that names nothing closes nothing
 names_nothing : (key : List PlainKeyAtom) (box : PlainBox) (term : LeafTerm) → named key box.sides term.on ≡ None → combo_closes key box (term ∷ []) ≡ false

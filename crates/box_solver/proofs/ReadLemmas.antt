@@ -1,7 +1,7 @@
 -- Reading more nodes: a search tree goes on where it left boxes.
-use Rattle.std.proofs.Common.{◌≡◌, ℕ, zero, suc, ◌+◌, ◌<◌, ◌≤◌, Bool, true, false, cond, ◌&&◌, ◌||◌, Option, Some, None, IfSome, IsTrue, List, [], ◌∷◌, ◌++◌, length, take, drop, replicate, nat_le, refl, ap, sym, ◌∙◌, subst, arith}
+use Rattle.std.proofs.Common.{◌≡◌, ℕ, zero, suc, ◌+◌, ◌≤◌, Bool, true, false, cond, ◌&&◌, ◌||◌, Option, Some, None, IfSome, List, [], ◌∷◌, ◌++◌, length, take, drop, replicate, nat_le, refl, ap, sym, ◌∙◌, subst, arith}
 use Rattle.std.specs.Option.{option_map_or, IsSomeAnd}
-use Rattle.std.specs.List.{list_any, count_by}
+use Rattle.std.specs.List.{list_any}
 use Rattle.std.proofs.lemmas.List.{take-append-le, drop-append-le, length-append}
 use Rattle.std.proofs.lemmas.List.Sums.{sum_by-append}
 use Rattle.std.proofs.lemmas.Bool.Decides.{nat_tests}
@@ -11,7 +11,7 @@ use Rattle.refutation.specs.declared.node.Node.{Node}
 use Rattle.refutation.specs.declared.node.Node.TheVariants.{Split, NeSplit, Combo, Fixed, Empty, Left}
 use Rattle.refutation.specs.Bounds.{is_empty}
 use Rattle.refutation.specs.Box.{PlainBox, left_half, right_half, on_side}
-use Rattle.refutation.specs.Leaf.{closes, combo, fixed, empty, combo_closes, fixed_closes}
+use Rattle.refutation.specs.Leaf.{combo_closes, fixed_closes}
 use Rattle.refutation.specs.Reading.{Treated, treated, is_split, names_ne, reading, refuted, fails_at}
 use Rattle.refutation.specs.SearchTree.{Rule, KeepsRule, decided, Searches, boxes_left, is_left, is_inner, inner_count, NoInnerAfterLeft, FirstLeftIsUndecided, IsUndecided}
 

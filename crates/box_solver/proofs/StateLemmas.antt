@@ -1,8 +1,8 @@
 -- A search from node to node: what it has built stays a search tree, and the closed boxes had a point each.
-use Rattle.std.proofs.Common.{◌≡◌, ℕ, zero, suc, ◌+◌, ◌-◌, ◌*◌, ◌/◌, ◌%◌, ◌^◌, ◌<◌, ◌≤◌, ℤ, pos, negsuc, ◌+ℤ◌, ◌-ℤ◌, ◌≤ℤ◌, ◌<ℤ◌, Bool, true, false, cond, ◌||◌, ◌&&◌, Option, Some, None, is_some, Result, Ok, Err, MatchResult, IsTrue, List, [], ◌∷◌, ◌++◌, length, drop, take, replicate, unsigned_abs, nat_le, nat_lt, ◌⊎◌, inl, inr, ⊎_elim, refl, ap, sym, ◌∙◌, subst, arith, append_assoc}
+use Rattle.std.proofs.Common.{◌≡◌, ℕ, zero, suc, ◌+◌, ◌*◌, ◌^◌, ◌<◌, ◌≤◌, ℤ, pos, negsuc, ◌+ℤ◌, ◌≤ℤ◌, ◌<ℤ◌, Bool, true, false, cond, ◌||◌, ◌&&◌, Option, Some, None, Result, Ok, Err, MatchResult, List, [], ◌∷◌, ◌++◌, length, drop, replicate, unsigned_abs, nat_le, nat_lt, ⊎_elim, refl, ap, sym, ◌∙◌, subst, arith, append_assoc}
 use Rattle.std.specs.Option.{IsSomeAnd, option_map_or}
 use Rattle.std.proofs.lemmas.Bool.{cases_lt}
-use Rattle.std.specs.List.{All, list_any, range_with_len}
+use Rattle.std.specs.List.{All, list_any}
 use Rattle.std.proofs.lemmas.Bool.Decides.{nat_tests}
 use Rattle.std.proofs.lemmas.Int.{ints}
 use Rattle.std.proofs.lemmas.List.{length-append, append-nil}
@@ -12,15 +12,15 @@ use Rattle.lin_model.specs.KeyAtom.{PlainKeyAtom}
 use Rattle.lin_model.specs.Key.{KeyHolds, key_width}
 use Rattle.refutation.specs.declared.leaf.LeafTerm.{LeafTerm}
 use Rattle.refutation.specs.declared.node.Node.{Node}
-use Rattle.refutation.specs.declared.node.Node.TheVariants.{Split, NeSplit, Combo, Fixed, Empty, Left}
+use Rattle.refutation.specs.declared.node.Node.TheVariants.{Split, Combo, Fixed, Left}
 use Rattle.refutation.specs.Bounds.{PlainBounds, key_bounds, is_empty}
 use Rattle.refutation.specs.Box.{PlainBox, root_box, left_half, right_half, is_ne}
 use Rattle.refutation.specs.Boxed.{IsBoxed, HasShortSides}
 use Rattle.refutation.specs.Cut.{floor_div}
-use Rattle.refutation.specs.Leaf.{ClosedByOneAtom, fixed, combo_closes, fixed_closes, is_by_one}
-use Rattle.refutation.specs.Reading.{Treated, treated, is_split, Refutes, reading, refuted}
-use Rattle.refutation.specs.SearchOrder.{lowest_corner, lower_or_zero, upper_or_zero, spread, middle}
-use Rattle.refutation.specs.SearchTree.{any_split, KeepsRule, IsUndecided, IsSearchSplit, decided, Searches, IsSearchTree, boxes_left, undecided_boxes, is_left, inner_count, IsOpenTree, doubling, room}
+use Rattle.refutation.specs.Leaf.{ClosedByOneAtom, fixed, fixed_closes}
+use Rattle.refutation.specs.Reading.{Treated, treated, Refutes}
+use Rattle.refutation.specs.SearchOrder.{lowest_corner, lower_or_zero, upper_or_zero, middle}
+use Rattle.refutation.specs.SearchTree.{any_split, KeepsRule, IsUndecided, decided, Searches, boxes_left, is_left, inner_count, IsOpenTree, doubling, room}
 use Rattle.box_solver.specs.Region.{PlainRegion, Adds, Grows}
 use Rattle.box_solver.specs.declared.one_atom.OneAtom.{OneAtom}
 use Rattle.box_solver.specs.declared.one_atom.OneAtom.TheVariants.{Term, Fixed as FixedAtom}

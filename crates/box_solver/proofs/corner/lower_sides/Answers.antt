@@ -4,7 +4,6 @@ use Rattle.std.proofs.lemmas.Int.{to_z-of_z, fits_signed_from_abs}
 use Rattle.std.specs.List.{All, range_with_len}
 use Rattle.std.proofs.lemmas.List.Elements.{All-push}
 use Rattle.std.proofs.lemmas.List.FromFn.{map-range_with_len_more, length-map-range_with_len}
-use Rattle.lin_model.specs.Key.{key_width}
 use Rattle.refutation.specs.SearchOrder.{lower_or_zero, lowest_corner}
 use Rattle.box_solver.proofs.corner.lower_sides.Goals as goal
 

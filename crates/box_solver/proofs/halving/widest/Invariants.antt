@@ -1,4 +1,3 @@
-use Rattle.std.proofs.Common.{◌≡◌}
 use Rattle.box_solver.specs.Halving.{IsWidest}
 use Rattle.box_solver.proofs.halving.widest.Given as goal
 

@@ -1,4 +1,4 @@
-use Rattle.std.proofs.Common.{◌≡◌, ℕ, ◌+◌, ◌<◌, Option, None, MatchOption, subst, sym, arith, below_more}
+use Rattle.std.proofs.Common.{Option, MatchOption, subst, arith, below_more}
 use Rattle.refutation.specs.declared.leaf.LeafTerm.{LeafTerm}
 use Rattle.box_solver.specs.OneAtom.{NoUnitCloses, IsClosingTerm}
 use Rattle.box_solver.proofs.one_atom.closing_term.Goals as goal

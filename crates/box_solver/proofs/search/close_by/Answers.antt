@@ -1,6 +1,5 @@
-use Rattle.std.proofs.Common.{◌≡◌, List, ◌∷◌, drop}
+use Rattle.std.proofs.Common.{◌≡◌, drop}
 use Rattle.std.proofs.lemmas.Result.{IfOk-weaker}
-use Rattle.refutation.specs.Box.{PlainBox}
 use Rattle.box_solver.specs.Progress.{IsAt}
 use Rattle.box_solver.proofs.StateLemmas.{at-closed}
 use Rattle.box_solver.proofs.search.close_by.Goals as goal

@@ -1,6 +1,4 @@
-use Rattle.std.proofs.Common.{◌≡◌, ◌++◌, [], length, replicate}
-use Rattle.refutation.specs.declared.node.Node.TheVariants.{Left}
-use Rattle.box_solver.specs.Region.{Adds}
+use Rattle.std.proofs.Common.{length}
 use Rattle.box_solver.proofs.LeftLemmas.{LeftSoFar}
 use Rattle.box_solver.proofs.search.leave_open.Given as goal
 

@@ -1,5 +1,4 @@
-use Rattle.std.proofs.Common.{◌≡◌}
-use Rattle.box_solver.proofs.StateLemmas.{grows-pushed, grows-grows, adds-adds}
+use Rattle.box_solver.proofs.StateLemmas.{grows-pushed}
 use Rattle.box_solver.proofs.search.push_leaf.Goals as goal
 
 pub returns-in_err-push_term-in-Term-clause-grows : goal.returns-in_err-push_term-in-Term-clause-grows

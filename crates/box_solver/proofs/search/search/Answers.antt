@@ -1,14 +1,12 @@
-use Rattle.std.proofs.Common.{◌≡◌, ℕ, ◌+◌, ◌<◌, ◌≤◌, true, false, List, [], ◌∷◌, ◌++◌, length, replicate, ap, sym, ◌∙◌, subst, arith}
-use Rattle.lin_model.specs.Key.{KeyHolds, key_width}
+use Rattle.std.proofs.Common.{◌≡◌, true, [], ◌∷◌, ◌++◌, length, replicate, ap, sym, ◌∙◌, subst, arith}
+use Rattle.lin_model.specs.Key.{KeyHolds}
 use Rattle.lin_model.specs.Point.{IsPoint}
 use Rattle.refutation.specs.declared.node.Node.TheVariants.{Empty, Left}
-use Rattle.refutation.specs.Bounds.{PlainBounds, key_bounds, is_empty}
-use Rattle.refutation.specs.Box.{PlainBox, root_box}
+use Rattle.refutation.specs.Bounds.{PlainBounds}
+use Rattle.refutation.specs.Box.{root_box}
 use Rattle.refutation.specs.Boxed.{HasShortSides}
 use Rattle.refutation.specs.SearchOrder.{lowest_corner}
-use Rattle.refutation.specs.SearchTree.{any_split, IsUndecided}
 use Rattle.refutation.proofs.ReadingLemmas.{some_box, no_box}
-use Rattle.box_solver.specs.Region.{Adds}
 use Rattle.box_solver.specs.Progress.{IsAt}
 use Rattle.box_solver.proofs.CornerLemmas.{key-narrow, corner-length}
 use Rattle.box_solver.proofs.StateLemmas.{grows-pushed, adds-adds, at-start, first-fits, first-split, is_undecided}
