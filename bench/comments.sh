@@ -1,0 +1,17 @@
+#!/bin/sh
+# Times how long a query's text of 16 MiB of comments takes to read, and prints the seconds. Asserts nothing.
+# The session is then refused with `fault later`, since a text with comments is not spelled plainly.
+set -eu
+cd "$(dirname "$0")/.."
+text=$(mktemp)
+trap 'rm -f "$text"' EXIT
+{
+    printf 'green 1\nexecutor\nquery\nvar x 0 9\n'
+    yes '# a comment of sixty-four bytes, its line feed among them .....' | head -n 262143
+    printf 'end\n'
+} > "$text"
+printf 'green 1\nexecutor\nquery\nvar x 0 9\nend\n' | ./green solve > /dev/null
+before=$(date +%s.%N)
+./green solve < "$text" || true
+after=$(date +%s.%N)
+echo "$(wc -c < "$text") bytes" "$before" "$after" | awk '{ printf "%s bytes in %.2f seconds\n", $1, $4 - $3 }'
