@@ -25,9 +25,17 @@ fn small_queries_have_these_answers(rt: HostRuntime) -> Result<(), Fail> {
         (X, "x <= -1\n", "unsat slice 1"),
         (X, "2*x <= 5\n5 <= 2*x\n", "unsat slice 1"),
         (X, "3*x <= 7\n4 <= 3*x\n", "sat x=2"),
-        (X, "2147483648*x <= 2147483648\n1 <= 2147483648*x\n", "sat x=1"),
+        (
+            X,
+            "2147483648*x <= 2147483648\n1 <= 2147483648*x\n",
+            "sat x=1",
+        ),
         (X, "1099511627776 <= x\n", "unsat slice 1"),
-        (X, "1099511627776 - 2147483648*x <= 1080184274944\n", "sat x=9"),
+        (
+            X,
+            "1099511627776 - 2147483648*x <= 1080184274944\n",
+            "sat x=9",
+        ),
         (X, "7 <= 2 + x\n3 - x <= -2 + 0\nx + 1 <= 6\n", "sat x=5"),
         ("var x 0 63\n", "x <= 62\n62 <= x\n", "sat x=62"),
         ("var x 17 40\n", "x <= 16\n", "unsat slice 1"),
@@ -40,10 +48,22 @@ fn small_queries_have_these_answers(rt: HostRuntime) -> Result<(), Fail> {
         (X_Y, "1 + x <= y\n1 + y <= x\n", "unsat slice 1"),
         (X_Y, "7*x + 5*y <= 11\n11 <= 7*x + 5*y\n", "unsat slice 1"),
         (X_Y, "7*x + 5*y <= 12\n12 <= 7*x + 5*y\n", "sat x=1 y=1"),
-        (X_Y, "y <= x\nx <= y\nx + y <= 7\n7 <= x + y\n", "unsat slice 1"),
+        (
+            X_Y,
+            "y <= x\nx <= y\nx + y <= 7\n7 <= x + y\n",
+            "unsat slice 1",
+        ),
         (X_Y, "x + 5 <= y\ny <= 5 - x\n", "sat x=0 y=5"),
-        ("var b 0 63\nvar a 0 63\n", "126 <= a + b\n", "sat b=63 a=63"),
-        ("var b 0 63\nvar a 0 63\n", "2*b <= 2*a + 1\n2*a <= 2*b - 1\n", "unsat slice 1"),
+        (
+            "var b 0 63\nvar a 0 63\n",
+            "126 <= a + b\n",
+            "sat b=63 a=63",
+        ),
+        (
+            "var b 0 63\nvar a 0 63\n",
+            "2*b <= 2*a + 1\n2*a <= 2*b - 1\n",
+            "unsat slice 1",
+        ),
     ] {
         let text = session_of(alloc, format!(in alloc; "{vars}{atoms}")?.as_str())?;
         let answers = format!(in alloc; "green answers 1\nexecutor\n{verdict} [new 0]\nend\n")?;
