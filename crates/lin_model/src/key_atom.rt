@@ -180,8 +180,8 @@ fn is_primitive(terms: &[FormTerm]) -> bool
     gcd_of(terms) == 1
 }
 
-/// The greatest common divisor of the coefficients, 0 where there is none.
-fn gcd_of(terms: &[FormTerm]) -> u64
+/// The greatest common divisor of the sizes of the coefficients, 0 where there are no terms or all are 0.
+pub fn gcd_of(terms: &[FormTerm]) -> u64
     ensures { IsGcdOf terms.now result }
 {
     let mut gcd = 0;

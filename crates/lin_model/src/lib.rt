@@ -19,7 +19,7 @@ pub use atom::{Atom, Cmp};
 pub use condition::{Condition, MAX_ATOMS, MAX_VARS};
 pub use form::{Form, FormTerm};
 pub use key::Key;
-pub use key_atom::KeyAtom;
+pub use key_atom::{KeyAtom, gcd_of};
 pub use limits::fits;
 pub use name::{MAX_NAME, Name, begins_name, continues_name, is_name, is_reserved};
 pub use op::Op;

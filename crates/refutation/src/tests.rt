@@ -114,3 +114,39 @@ fn a_leaf_closes_by_a_side(rt: HostRuntime) -> Result<(), Fail> {
     assert!(rt; !closes(&key, &bounds, &sides, &Leaf::Fixed(0)));
     Ok(())
 }
+
+/// How often the tree of `a_tree_of_many_nodes_refutes` splits.
+const SPLITS: usize = 50_000;
+
+#[test]
+fn a_tree_of_many_nodes_refutes(rt: HostRuntime) -> Result<(), Fail> {
+    let alloc = rt.alloc();
+    let key = crossed(alloc, -1, 1)?;
+    let mut nodes = Vec::new(alloc);
+    let mut terms = Vec::new(alloc);
+    for cut in 0..SPLITS {
+        nodes.push(Node::Split {
+            var: 0,
+            cut: cut as i64,
+        })?;
+        nodes.push(Node::Combo { count: 2 })?;
+        terms.push(on_atom(0, 1))?;
+        terms.push(on_atom(1, 1))?;
+    }
+    assert_eq!(rt;
+        refutes(alloc, &key, &nodes, &terms),
+        Err(TreeFault::TreeEnds)
+    );
+    nodes.push(Node::Combo { count: 2 })?;
+    terms.push(on_atom(0, 1))?;
+    terms.push(on_atom(1, 1))?;
+    assert_eq!(rt; nodes.len(), 100_001);
+    assert_eq!(rt; refutes(alloc, &key, &nodes, &terms), Ok(()));
+    nodes[SPLITS] = Node::Empty;
+    let at = SPLITS as u64;
+    assert_eq!(rt;
+        refutes(alloc, &key, &nodes, &terms),
+        Err(TreeFault::NodeFails(at))
+    );
+    Ok(())
+}
