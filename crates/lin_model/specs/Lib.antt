@@ -7,4 +7,5 @@ pub mod Form
 pub mod KeyAtom
 pub mod AtomOrder
 pub mod Key
+pub mod Bounded
 pub mod Point
