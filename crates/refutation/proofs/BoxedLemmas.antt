@@ -1,5 +1,5 @@
 -- The sides of a key's bounds are at most 2^32 in size; which keys are boxed, by hand.
-use Rattle.std.proofs.Common.{◌≡◌, ℕ, zero, suc, ◌^◌, ◌<◌, ◌≤◌, ℤ, pos, negsuc, neg_ℤ, Bool, true, false, cond, Option, Some, None, IfSome, List, [], ◌∷◌, unsigned_abs, arith, refl, sym, subst, int_lt}
+use Rattle.std.proofs.Common.{◌≡◌, ℕ, zero, suc, ◌^◌, ◌≤◌, ℤ, pos, negsuc, neg_ℤ, Bool, true, false, cond, Option, Some, None, IfSome, List, [], ◌∷◌, unsigned_abs, arith, refl, sym, subst, int_lt}
 use Rattle.std.specs.Int.{int_min, int_max}
 use Rattle.std.proofs.lemmas.Int.{ints, clamps}
 use Rattle.lin_model.specs.declared.op.Op.{Op}
@@ -7,7 +7,7 @@ use Rattle.lin_model.specs.declared.op.Op.TheVariants.{Le, Ge, Eq, Ne}
 use Rattle.lin_model.specs.KeyAtom.{PlainKeyAtom}
 use Rattle.refutation.proofs.Points.{over_variables, if_some}
 use Rattle.refutation.specs.Bounds.{PlainBounds, side_limit, lower_of, upper_of, lower_side, upper_side, lower_by, upper_by, is_variable, tighter_lower, tighter_upper, lower_bound, upper_bound, key_bounds, variables}
-use Rattle.refutation.specs.Boxed.{HasBothSides, IsBoxedIn, IsBoxed, HasShortSides}
+use Rattle.refutation.specs.Boxed.{IsBoxed, HasShortSides}
 
 -- a side of at most 2^32 in size
 abbrev Short : Option ℤ → Type 0

@@ -11,3 +11,4 @@ pub mod LeafLemmas
 pub mod WalkLemmas
 pub mod ReadingLemmas
 pub mod BoxedLemmas
+pub mod BoundedLemmas

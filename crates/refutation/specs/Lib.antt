@@ -9,3 +9,4 @@ pub mod Walk
 pub mod Cut
 pub mod SearchOrder
 pub mod SearchTree
+pub mod Laws

@@ -1,0 +1,120 @@
+-- A key that bounds each of its variables on both sides has both sides of each.
+use Rattle.std.proofs.Common.{◌≡◌, ◌⊎◌, ⊎_elim, ℕ, zero, suc, ◌<◌, ◌≤◌, ℤ, neg_ℤ, ◌≤ℤ◌, Bool, true, false, cond, Option, Some, None, is_some, List, [], ◌∷◌, length, get_or, eqb, arith, refl, ap, sym, subst, ◌∙◌, int_lt}
+use Rattle.std.specs.Int.{int_min, int_max}
+use Rattle.std.specs.List.{All, Any}
+use Rattle.std.proofs.lemmas.Bool.Decides.{eqb_tells}
+use Rattle.std.proofs.lemmas.Int.{ints}
+use Rattle.std.proofs.lemmas.List.FromFn.{get_or-map-range_with_len}
+use Rattle.lin_model.specs.declared.form.FormTerm.{FormTerm}
+use Rattle.lin_model.specs.declared.op.Op.{Op}
+use Rattle.lin_model.specs.declared.op.Op.TheVariants.{Le, Ge, Eq}
+use Rattle.lin_model.specs.Form.{form_width}
+use Rattle.lin_model.specs.KeyAtom.{PlainKeyAtom, IsCanonical}
+use Rattle.lin_model.specs.Key.{IsKey, key_width}
+use Rattle.lin_model.specs.Bounded.{variable, GivesLower, GivesUpper, IsBounded}
+use Rattle.refutation.specs.Bounds.{side_limit, lower_side, upper_side, lower_by, upper_by, is_variable, tighter_lower, tighter_upper, lower_from, upper_from, lower_bound, upper_bound, key_bounds, variables}
+use Rattle.refutation.specs.Boxed.{IsBoxed}
+
+-- ---- the width of a key
+
+form-width : (form : List FormTerm) → All (λ t. t.var < 64) form → form_width form ≤ 64
+form-width [] h = omega arith
+form-width (t ∷ ts) h = omega (arith, h 0 t (omega arith), form-width ts (λ k d lt. h (suc k) d (omega arith)))
+
+keys-width : (atoms : List PlainKeyAtom) → All IsCanonical atoms → key_width atoms ≤ 64
+keys-width [] h = omega arith
+keys-width (a ∷ atoms) h = omega (arith, form-width a.form (h 0 a (omega arith)).form.variables.in_range, keys-width atoms (λ k d lt. h (suc k) d (omega arith)))
+
+-- ---- the side that one atom gives
+
+not_below : (n m : ℤ) → m ≤ℤ n → int_lt n m ≡ false
+not_below n m le = by_test (int_lt n m) refl
+  where
+    by_test : (t : Bool) → int_lt n m ≡ t → int_lt n m ≡ false
+    by_test true e = absurd (omega (arith, ints, e, le))
+    by_test false e = e
+
+has_value : (b : Bool) (n : ℤ) → b ≡ false → is_some (cond b None (Some n)) ≡ true
+has_value true n h = absurd (cc)
+has_value false n h = refl
+
+lower_side-there : (c : ℤ) → neg_ℤ side_limit ≤ℤ c → is_some (lower_side c) ≡ true
+lower_side-there c le = has_value (int_lt c (neg_ℤ side_limit)) (int_min c side_limit) (not_below c (neg_ℤ side_limit) le)
+
+upper_side-there : (c : ℤ) → c ≤ℤ side_limit → is_some (upper_side c) ≡ true
+upper_side-there c le = has_value (int_lt side_limit c) (int_max c (neg_ℤ side_limit)) (not_below side_limit c le)
+
+lower_by-there : (op : Op) (c : ℤ) → (op ≡ Ge) ⊎ (op ≡ Eq) → neg_ℤ side_limit ≤ℤ c → is_some (lower_by op c) ≡ true
+lower_by-there op c either le =
+    ⊎_elim (λ ge. subst (λ (o : Op). is_some (lower_by o c) ≡ true) (sym ge) (lower_side-there c le)) (λ eq. subst (λ (o : Op). is_some (lower_by o c) ≡ true) (sym eq) (lower_side-there c le)) either
+
+upper_by-there : (op : Op) (c : ℤ) → (op ≡ Le) ⊎ (op ≡ Eq) → c ≤ℤ side_limit → is_some (upper_by op c) ≡ true
+upper_by-there op c either le =
+    ⊎_elim (λ at_most. subst (λ (o : Op). is_some (upper_by o c) ≡ true) (sym at_most) (upper_side-there c le)) (λ eq. subst (λ (o : Op). is_some (upper_by o c) ≡ true) (sym eq) (upper_side-there c le)) either
+
+same_number : (v : ℕ) → eqb v v ≡ true
+same_number v = grind (arith, eqb_tells)
+
+is_this : (v : ℕ) → is_variable (variable v) v ≡ true
+is_this v = ap (λ (b : Bool). cond b true false) (same_number v)
+
+chosen : (b : Bool) (o : Option ℤ) → b ≡ true → is_some o ≡ true → is_some (cond b o None) ≡ true
+chosen true o is h = h
+chosen false o is h = absurd (cc)
+
+lower_from-there : (v : ℕ) (a : PlainKeyAtom) → GivesLower v a → is_some (lower_from a v) ≡ true
+lower_from-there v a h =
+    chosen (is_variable a.form v) (lower_by a.op a.constant) (ap (λ (f : List FormTerm). is_variable f v) h.form ∙ is_this v) (lower_by-there a.op a.constant h.op h.constant)
+
+upper_from-there : (v : ℕ) (a : PlainKeyAtom) → GivesUpper v a → is_some (upper_from a v) ≡ true
+upper_from-there v a h =
+    chosen (is_variable a.form v) (upper_by a.op a.constant) (ap (λ (f : List FormTerm). is_variable f v) h.form ∙ is_this v) (upper_by-there a.op a.constant h.op h.constant)
+
+-- ---- the tightest of the sides
+
+first_lower : (o q : Option ℤ) → is_some o ≡ true → is_some (tighter_lower o q) ≡ true
+first_lower None q h = absurd (cc)
+first_lower (Some x) None h = refl
+first_lower (Some x) (Some y) h = refl
+
+other_lower : (o q : Option ℤ) → is_some q ≡ true → is_some (tighter_lower o q) ≡ true
+other_lower None q h = h
+other_lower (Some x) None h = refl
+other_lower (Some x) (Some y) h = refl
+
+first_upper : (o q : Option ℤ) → is_some o ≡ true → is_some (tighter_upper o q) ≡ true
+first_upper None q h = absurd (cc)
+first_upper (Some x) None h = refl
+first_upper (Some x) (Some y) h = refl
+
+other_upper : (o q : Option ℤ) → is_some q ≡ true → is_some (tighter_upper o q) ≡ true
+other_upper None q h = h
+other_upper (Some x) None h = refl
+other_upper (Some x) (Some y) h = refl
+
+lower-by_one : (atoms : List PlainKeyAtom) (v k : ℕ) (a : PlainKeyAtom) → k < length atoms → get_or atoms k a ≡ a → is_some (lower_from a v) ≡ true → is_some (lower_bound atoms v) ≡ true
+lower-by_one [] v k a lt is h = absurd (omega arith)
+lower-by_one (b ∷ atoms) v zero a lt is h = first_lower (lower_from b v) (lower_bound atoms v) (subst (λ (x : PlainKeyAtom). is_some (lower_from x v) ≡ true) (sym is) h)
+lower-by_one (b ∷ atoms) v (suc k) a lt is h = other_lower (lower_from b v) (lower_bound atoms v) (lower-by_one atoms v k a (omega arith) is h)
+
+upper-by_one : (atoms : List PlainKeyAtom) (v k : ℕ) (a : PlainKeyAtom) → k < length atoms → get_or atoms k a ≡ a → is_some (upper_from a v) ≡ true → is_some (upper_bound atoms v) ≡ true
+upper-by_one [] v k a lt is h = absurd (omega arith)
+upper-by_one (b ∷ atoms) v zero a lt is h = first_upper (upper_from b v) (upper_bound atoms v) (subst (λ (x : PlainKeyAtom). is_some (upper_from x v) ≡ true) (sym is) h)
+upper-by_one (b ∷ atoms) v (suc k) a lt is h = other_upper (upper_from b v) (upper_bound atoms v) (upper-by_one atoms v k a (omega arith) is h)
+
+lower-there : (atoms : List PlainKeyAtom) (v : ℕ) → Any (GivesLower v) atoms → is_some (lower_bound atoms v) ≡ true
+lower-there atoms v (k, a, lt, is, gives) = lower-by_one atoms v k a lt is (lower_from-there v a gives)
+
+upper-there : (atoms : List PlainKeyAtom) (v : ℕ) → Any (GivesUpper v) atoms → is_some (upper_bound atoms v) ≡ true
+upper-there atoms v (k, a, lt, is, gives) = upper-by_one atoms v k a lt is (upper_from-there v a gives)
+
+-- ---- all of them
+
+pub bounded-boxed : (key : List PlainKeyAtom) → IsKey key → IsBounded key → IsBoxed key
+unfolding key_bounds variables
+bounded-boxed key is_key bounded v lt =
+    let narrow : key_width key ≤ 64 = keys-width key is_key.canonical in
+    record {
+      lower = ap is_some (get_or-map-range_with_len (lower_bound key) 0 64 v v None (omega (arith, narrow)) (omega arith)) ∙ lower-there key v (bounded.lower v lt);
+      upper = ap is_some (get_or-map-range_with_len (upper_bound key) 0 64 v v None (omega (arith, narrow)) (omega arith)) ∙ upper-there key v (bounded.upper v lt);
+    }

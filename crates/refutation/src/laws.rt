@@ -1,0 +1,12 @@
+//! Laws of refutations and bounds, each the contract of a function that does nothing.
+ghost use Rattle.refutation.specs.Laws.{RefutedHasNoPoint, BoundedIsBoxed};
+
+/// No point satisfies a key that some tree refutes.
+pub fn refuted_keys_have_no_point()
+    ensures { RefutedHasNoPoint }
+{}
+
+/// A key that bounds each of its variables on both sides has both sides of each.
+pub fn bounded_keys_are_boxed()
+    ensures { BoundedIsBoxed }
+{}
