@@ -1,0 +1,5 @@
+pub mod Gathered
+pub mod Numbering
+pub mod Forms
+pub mod Keys
+pub mod Solutions

@@ -1,0 +1,10 @@
+//! From a slice of a condition to its canonical key, and back.
+#![tactic(auto)]
+
+mod back;
+mod canonical;
+mod laws;
+
+pub use back::Back;
+pub use canonical::Canonical;
+pub use laws::probe;
