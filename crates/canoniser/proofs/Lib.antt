@@ -1,1 +1,4 @@
 mod Worked
+mod PartLemmas
+mod ImplicationLemmas
+mod StrongestLemmas

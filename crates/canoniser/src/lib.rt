@@ -3,7 +3,9 @@
 
 mod back;
 mod canonical;
+mod implied;
 mod laws;
+mod strongest;
 
 pub use back::Back;
 pub use canonical::Canonical;
