@@ -2,3 +2,4 @@ mod Worked
 mod PartLemmas
 mod ImplicationLemmas
 mod StrongestLemmas
+mod BoundLemmas

@@ -2,6 +2,7 @@
 #![tactic(auto)]
 
 mod back;
+mod bounds;
 mod canonical;
 mod implied;
 mod laws;
