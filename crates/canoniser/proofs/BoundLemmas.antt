@@ -10,7 +10,8 @@ use Rattle.std.proofs.lemmas.Bool.Decides.{eqb_tells}
 use Rattle.std.proofs.lemmas.List.Elements.{All-nil, All-cons, Contains-append_left, Contains-push, Contains-push_cases}
 use Rattle.lin_model.specs.declared.form.FormTerm.{FormTerm}
 use Rattle.lin_model.specs.declared.op.Op.{Op}
-use Rattle.lin_model.specs.Terms.{PlainVar}
+use borrow.Author.Count.{below_more}
+use Rattle.lin_model.specs.Terms.{PlainVar, VarFits}
 use Rattle.lin_model.specs.Conditions.{PlainCondition}
 use Rattle.lin_model.specs.Form.{IsGcdOf}
 use Rattle.lin_model.specs.KeyAtom.{PlainKeyAtom, IsCanonical, IsCanonicalForm}
@@ -84,3 +85,11 @@ AreBounds-more c order n var atoms is so_far a =
             )
       ],
     )
+
+-- the first n variables of the list are within their limits
+abbrev pub FitBelow : PlainCondition → List ℕ → ℕ → Type 0
+FitBelow c order n = (v : ℕ) → v < n → IsSomeAnd (slice_get c.vars (slice_index order v)) VarFits
+
+pub FitBelow-more : (c : PlainCondition) (order : List ℕ) (n : ℕ) (var : PlainVar) → slice_get c.vars (slice_index order n) ≡ Some var → FitBelow c order n → VarFits var → FitBelow c order (n + 1)
+FitBelow-more c order n var is so_far fits v lt =
+    below_more (λ (k : ℕ). IsSomeAnd (slice_get c.vars (slice_index order k)) VarFits) n so_far (subst (λ (o : Option PlainVar). IsSomeAnd o VarFits) (sym is) fits) v lt

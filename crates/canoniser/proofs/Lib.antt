@@ -3,3 +3,10 @@ mod PartLemmas
 mod ImplicationLemmas
 mod StrongestLemmas
 mod BoundLemmas
+mod Assumed
+mod Lookups
+mod SliceLemmas
+mod KeyLemmas
+mod SaidLemmas
+mod TurnLemmas
+mod CanonisedLemmas

@@ -4,3 +4,6 @@ pub mod Forms
 pub mod Keys
 pub mod Parts
 pub mod Solutions
+pub mod Strongest
+pub mod Said
+pub mod Answers

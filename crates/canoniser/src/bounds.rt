@@ -2,7 +2,9 @@
 ghost use Rattle.std.specs.Prelude.{◌≡◌, ◌+◌, ◌*◌, ◌^◌, ◌<◌, ◌≤◌, ◌↔◌, length, unsigned_abs, All, IfOk, OnOk, Contains, List, [], ◌∷◌, ◌++◌};
 ghost use Rattle.lin_model.specs.KeyAtom.{PlainKeyAtom};
 ghost use Rattle.lin_model.specs.Bounded.{variable};
+ghost use Rattle.lin_model.specs.Terms.{VarFits};
 ghost use Rattle.canoniser.specs.Keys.{IsBound, upper_atom, lower_atom};
+ghost use Rattle.canoniser.specs.Strongest.{VarsFit};
 
 use lin_model::{Condition, Form, FormTerm, KeyAtom, Op, Var};
 use outside::NoMemory;
@@ -17,6 +19,7 @@ pub(crate) fn bounds_of(
     requires declared { All (λ v. v < length c.now.vars) order.now }
     requires few { length order.now ≤ 64 }
     ensures two_each { IfOk result (λ atoms. length atoms.items ≡ 2 * length order.now) }
+    ensures fit { IfOk result (λ _. VarsFit c.now order.now) }
     ensures just { IfOk result
         (λ atoms. (a : PlainKeyAtom) → Contains atoms.items a ↔ IsBound c.now order.now a) }
 {
@@ -31,7 +34,8 @@ pub(crate) fn bounds_of(
 /// Adds the bounds of this variable, of which the key has the number `v`.
 fn push_bounds(alloc: Global, atoms: &mut Vec<KeyAtom>, v: u8, var: &Var) -> Result<(), NoMemory>
     requires { v < 64 }
-    ensures { OnOk result
+    ensures fits { OnOk result (VarFits var.now) }
+    ensures items { OnOk result
         (atoms.new.items ≡ atoms.old.items ++ upper_atom v var.now ∷ [] ++ lower_atom v var.now ∷ []) }
 {
     atoms.push(bound(alloc, v, Op::Le, var.hi())?)?;

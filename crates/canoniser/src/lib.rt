@@ -5,9 +5,14 @@ mod back;
 mod bounds;
 mod canonical;
 mod implied;
+mod keys;
 mod laws;
+mod numbering;
+mod outcome;
+mod said;
 mod strongest;
 
 pub use back::Back;
 pub use canonical::Canonical;
+pub use keys::canonise;
 pub use laws::probe;
