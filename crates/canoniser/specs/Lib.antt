@@ -3,3 +3,5 @@ pub mod Numbering
 pub mod Forms
 pub mod Keys
 pub mod Solutions
+pub mod Limits
+pub mod Meaning

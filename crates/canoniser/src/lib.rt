@@ -3,7 +3,9 @@
 
 mod back;
 mod canonical;
+mod gathered;
 mod laws;
+mod outcome;
 
 pub use back::Back;
 pub use canonical::Canonical;
