@@ -1,2 +1,4 @@
+mod Arithmetic
 mod GatheredLemmas
+mod LimitsLemmas
 mod Worked

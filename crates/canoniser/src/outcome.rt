@@ -4,7 +4,7 @@ ghost use Rattle.std.specs.Prelude.{◌≡◌, ℕ, pos, ◌-ℤ◌, neg_ℤ, �
 ghost use Rattle.lin_model.specs.declared.atom.Atom.{Atom as AnyAtom};
 ghost use Rattle.lin_model.specs.Conditions.{AtomFits, AtomNamesBelow};
 ghost use Rattle.lin_model.specs.Form.{IsGcdOf};
-ghost use Rattle.lin_model.specs.KeyAtom.{IsCanonical};
+ghost use Rattle.lin_model.specs.KeyAtom.{HasSmallCoefficients};
 ghost use Rattle.canoniser.specs.Gathered.{coefficient, op_of, loose};
 ghost use Rattle.canoniser.specs.Forms.{terms_from, gathered, oriented, turned, turned_op, begins_negative, says, floor_div, ceil_div, divides, divided, alone, ComesTo, IsReduced};
 ghost use Rattle.canoniser.specs.Limits.{IsGathered, IsOriented};
@@ -182,7 +182,7 @@ fn reduced(alloc: Global, a: Linear) -> Result<Outcome, NoMemory>
     requires limits { IsOriented a }
     ensures { IfOk result (λ outcome. IsReduced a.form a.op a.constant (meaning outcome)) }
 {
-    let divisor = gcd_of(&a.form);
+    let divisor = divisor_of(&a.form);
     match a.op {
         Op::Le => says(alloc, &a, floor_div(a.constant, divisor), divisor),
         Op::Ge => says(alloc, &a, ceil_div(a.constant, divisor), divisor),
@@ -191,11 +191,24 @@ fn reduced(alloc: Global, a: Linear) -> Result<Outcome, NoMemory>
     }
 }
 
+/// The greatest common divisor of coefficients that aren't 0 and are below 2^40 in size.
+fn divisor_of(form: &[FormTerm]) -> u64
+    requires some { 0 < length form.now }
+    requires coefficients { HasSmallCoefficients form.now }
+    ensures greatest { IsGcdOf form.now result }
+    ensures positive { 0 < result }
+    ensures small { result < 2 ^ 40 }
+{
+    gcd_of(form)
+}
+
 /// The quotient where the divisor divides the constant, and `otherwise` where it doesn't.
 fn exact(alloc: Global, a: &Linear, otherwise: Outcome, divisor: u64) -> Result<Outcome, NoMemory>
     requires some { 0 < length a.now.form }
     requires limits { IsOriented a.now }
     requires greatest { IsGcdOf a.now.form divisor }
+    requires positive { 0 < divisor }
+    requires small { divisor < 2 ^ 40 }
     ensures { IfOk result (λ outcome. meaning outcome ≡ (if divides divisor a.now.constant then says (record {
         form = divided divisor a.now.form; op = a.now.op; constant = floor_div a.now.constant divisor }) else meaning otherwise)) }
 {
@@ -211,6 +224,8 @@ fn says(alloc: Global, a: &Linear, constant: i64, divisor: u64) -> Result<Outcom
     requires some { 0 < length a.now.form }
     requires limits { IsOriented a.now }
     requires greatest { IsGcdOf a.now.form divisor }
+    requires positive { 0 < divisor }
+    requires small { divisor < 2 ^ 40 }
     requires constant { unsigned_abs constant < 2 ^ 50 }
     ensures { IfOk result (λ outcome. meaning outcome ≡ says (record {
         form = divided divisor a.now.form; op = a.now.op; constant = constant })) }
