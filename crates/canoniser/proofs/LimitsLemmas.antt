@@ -1,18 +1,74 @@
 -- The limits of gathered, turned and divided atoms.
-use Rattle.std.proofs.Common.{◌≡◌, ◌≢◌, ℕ, zero, suc, ◌+◌, ◌*◌, ◌^◌, ◌<◌, ◌≤◌, Bool, true, false, List, [], ◌∷◌, length, get_or, map, ℤ, pos, ◌<ℤ◌, ◌*ℤ◌, unsigned_abs, refl, arith, ap, sym, ◌∙◌, subst}
+use Rattle.std.proofs.Common.{◌≡◌, ◌≢◌, ℕ, zero, suc, ◌+◌, ◌*◌, ◌^◌, ◌<◌, ◌≤◌, Bool, true, false, List, [], ◌∷◌, length, get_or, take, ◌++◌, ℤ, pos, ◌<ℤ◌, ◌*ℤ◌, unsigned_abs, refl, arith, ap, sym, ◌∙◌, subst}
+use Rattle.std.specs.Prelude.{if◌then◌else◌}
+use Rattle.std.specs.Ordering.{int_eq}
 use Rattle.std.specs.Int.{◌∣◌}
 use Rattle.std.specs.List.{All, AllAdjacentBelow}
 use Rattle.std.proofs.Math.Nat.{eq-zero_of_zero-dvd, mul-le-mul_right, one-dvd, mul-dvd-mul_left, dvd_of_mul-dvd-mul_left}
 use Rattle.std.proofs.lemmas.Nat.Gcd.{le_of_dvd}
 use Rattle.std.proofs.lemmas.Int.{ints, by_lt_z, unsigned_abs-mul}
-use Rattle.std.proofs.lemmas.List.{get_or-map, length-map}
+use Rattle.std.proofs.lemmas.List.{get_or-map, length-map, take_more, length-take}
 use Rattle.std.proofs.lemmas.List.Elements.{All-map}
+use Rattle.lin_model.specs.declared.atom.Atom.{Atom}
 use Rattle.lin_model.specs.declared.form.FormTerm.{FormTerm}
 use Rattle.lin_model.specs.Form.{IsGcdOf, DividesAll}
 use Rattle.lin_model.specs.KeyAtom.{PlainKeyAtom, HasSmallCoefficients, IsCanonicalForm}
-use Rattle.canoniser.specs.Forms.{floor_div, divided}
+use Rattle.canoniser.specs.Gathered.{coefficient}
+use Rattle.canoniser.specs.Forms.{terms_from, floor_div, divided}
 use Rattle.canoniser.specs.Limits.{IsGathered, IsOriented}
 use Rattle.canoniser.proofs.Arithmetic.{abs-positive, floor_div-exact, scale_up}
+
+-- ---- the terms of an atom over the variables of a list
+
+chosen-append : (zero_too : Bool) (t : FormTerm) (xs ys : List FormTerm) → (if zero_too then xs ++ ys else t ∷ (xs ++ ys)) ≡ (if zero_too then xs else t ∷ xs) ++ ys
+chosen-append true t xs ys = refl
+chosen-append false t xs ys = refl
+
+-- the term of the variable of number n, or none
+abbrev pub term_of : ℕ → ℤ → List FormTerm
+term_of n coef = if int_eq coef (pos 0) then [] else record { var = n; coef = coef } ∷ []
+
+terms_from-push : (k n : ℕ) (vs : List ℕ) (v : ℕ) (atom : Atom) → n ≡ k + length vs → terms_from k (vs ++ v ∷ []) atom ≡ terms_from k vs atom ++ term_of n (coefficient atom v)
+terms_from-push k n [] v atom e = ap (λ m. term_of m (coefficient atom v)) (omega arith)
+terms_from-push k n (x ∷ vs) v atom e =
+    let zero_too = int_eq (coefficient atom x) (pos 0) in
+    let t : FormTerm = record { var = k; coef = coefficient atom x } in
+    ap (λ (ts : List FormTerm). if zero_too then ts else t ∷ ts) (terms_from-push (suc k) n vs v atom (omega arith))
+    ∙ chosen-append zero_too t (terms_from (suc k) vs atom) (term_of n (coefficient atom v))
+
+-- the variables up to one more place
+pub terms_from_more : (vs : List ℕ) (n : ℕ) (atom : Atom) (items new : List FormTerm) (coef : ℤ) → n < length vs → new ≡ items ++ term_of n coef → items ≡ terms_from 0 (take n vs) atom → coef ≡ coefficient atom (get_or vs n 0) → new ≡ terms_from 0 (take (n + 1) vs) atom
+terms_from_more vs n atom items new coef within added before is =
+    added
+    ∙ ap (λ (ts : List FormTerm). ts ++ term_of n coef) before
+    ∙ ap (λ (c : ℤ). terms_from 0 (take n vs) atom ++ term_of n c) is
+    ∙ sym (ap (λ (xs : List ℕ). terms_from 0 xs atom) (take_more vs n 0 within) ∙ terms_from-push 0 n (take n vs) (get_or vs n 0) atom (omega (arith, length-take n vs)))
+
+-- ---- the limits of a gathered atom
+
+length-chosen : (zero_too : Bool) (t : FormTerm) (ts : List FormTerm) (n : ℕ) → length ts ≤ n → length (if zero_too then ts else t ∷ ts) ≤ suc n
+length-chosen true t ts n h = omega arith
+length-chosen false t ts n h = omega (arith, h)
+
+length-terms_from : (k : ℕ) (vs : List ℕ) (atom : Atom) → length (terms_from k vs atom) ≤ length vs
+length-terms_from k [] atom = omega arith
+length-terms_from k (v ∷ vs) atom =
+    length-chosen (int_eq (coefficient atom v) (pos 0)) (record { var = k; coef = coefficient atom v }) (terms_from (suc k) vs atom) (length vs) (length-terms_from (suc k) vs atom)
+
+-- what holds of each term that isn't left out holds of all
+All-chosen : (P : FormTerm → Type 0) (zero_too : Bool) (t : FormTerm) (ts : List FormTerm) → (zero_too ≡ false → P t) → All P ts → All P (if zero_too then ts else t ∷ ts)
+All-chosen P true t ts here all = all
+All-chosen P false t ts here all = All-cons P t ts (here refl) all
+
+All-terms_from : (P : FormTerm → Type 0) (k : ℕ) (vs : List ℕ) (atom : Atom) → ((n v : ℕ) → k ≤ n → n < k + length vs → Contains vs v → coefficient atom v ≢ pos 0 → P (record { var = n; coef = coefficient atom v })) → All P (terms_from k vs atom)
+All-terms_from P k [] atom each = All-nil P
+All-terms_from P k (v ∷ vs) atom each =
+    All-chosen P (int_eq (coefficient atom v) (pos 0)) (record { var = k; coef = coefficient atom v }) (terms_from (suc k) vs atom)
+    (λ no_zero. each k v (omega arith) (omega arith) (0, omega arith, refl) ?)
+    (All-terms_from P (suc k) vs atom (λ n w low high in_rest. each n w (omega arith) (omega arith) (Contains-tail v vs w in_rest)))
+
+Adjacent-cons : (t : FormTerm) (ts : List FormTerm) → All (λ u. t.var < u.var) ts → Ascends ts → Ascends (t ∷ ts)
+Adjacent-cons t ts above rest k d lt = ?
 
 -- the greatest common divisor of small coefficients is positive and small
 divisor-positive : (n g : ℕ) → 0 < n → g ∣ n → 0 < g

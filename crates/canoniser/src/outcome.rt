@@ -1,5 +1,6 @@
 //! What an atom comes to over the variables of its slice.
-ghost use Rattle.std.specs.Prelude.{◌≡◌, ℕ, pos, ◌-ℤ◌, neg_ℤ, ◌^◌, ◌<◌, ◌≤◌, length, slice_index_or, unsigned_abs, All, IfOk, if◌then◌else◌};
+ghost use Rattle.std.specs.Prelude.{◌≡◌, ℕ, pos, ◌-ℤ◌, neg_ℤ, ◌^◌, ◌<◌, ◌≤◌, length, slice_index_or, unsigned_abs, All, IfOk, OnOk, List, [], ◌∷◌, ◌++◌, if◌then◌else◌};
+ghost use Rattle.std.specs.Ordering.{int_eq};
 
 ghost use Rattle.lin_model.specs.declared.atom.Atom.{Atom as AnyAtom};
 ghost use Rattle.lin_model.specs.Conditions.{AtomFits, AtomNamesBelow};
@@ -69,7 +70,7 @@ fn gathered(alloc: Global, order: &[u32], atom: &Atom) -> Result<Linear, NoMemor
     let left = side_of(atom.left.terms());
     let right = side_of(atom.right.terms());
     let form = terms_of(alloc, order, &left, &right)?;
-    let constant = loose(atom.cmp, right.constant - left.constant);
+    let constant = loose(atom.cmp, difference(right.constant, left.constant));
     Ok(Linear { form, op: op_of(atom.cmp), constant })
 }
 
@@ -85,12 +86,29 @@ fn terms_of(alloc: Global, order: &[u32], left: &Side, right: &Side) -> Result<V
 {
     let mut terms = Vec::new(alloc);
     for (k, v) in order.iter().enumerate() {
-        let coef = left.factors[*v as usize] - right.factors[*v as usize];
-        if coef != 0 {
-            terms.push(FormTerm { var: k as u8, coef })?;
-        }
+        let coef = difference(left.factors[*v as usize], right.factors[*v as usize]);
+        push_term(&mut terms, k as u8, coef)?;
     }
     Ok(terms)
+}
+
+fn difference(left: i64, right: i64) -> i64
+    requires left { unsigned_abs left ≤ 2 ^ 46 }
+    requires right { unsigned_abs right ≤ 2 ^ 46 }
+    ensures { result ≡ left -ℤ right }
+{
+    left - right
+}
+
+/// Adds the term unless its coefficient is 0.
+fn push_term(terms: &mut Vec<FormTerm>, var: u8, coef: i64) -> Result<(), NoMemory>
+    ensures { OnOk result (terms.new.items ≡ terms.old.items
+        ++ (if int_eq coef (pos 0) then [] else record { var = var; coef = coef } ∷ [])) }
+{
+    if coef != 0 {
+        terms.push(FormTerm { var, coef })?;
+    }
+    Ok(())
 }
 
 /// How a canonical atom compares.
