@@ -1,5 +1,5 @@
 -- The limits of gathered, turned and divided atoms.
-use Rattle.std.proofs.Common.{◌≡◌, ◌≢◌, ℕ, zero, suc, ◌+◌, ◌*◌, ◌^◌, ◌<◌, ◌≤◌, Bool, true, false, List, [], ◌∷◌, length, get_or, take, ◌++◌, ℤ, pos, ◌<ℤ◌, ◌*ℤ◌, unsigned_abs, refl, arith, ap, sym, ◌∙◌, subst}
+use Rattle.std.proofs.Common.{◌≡◌, ◌≢◌, ℕ, zero, suc, ◌+◌, ◌*◌, ◌^◌, ◌<◌, ◌≤◌, Bool, true, false, List, [], ◌∷◌, length, get_or, take, map, ◌++◌, ℤ, pos, ◌<ℤ◌, ◌*ℤ◌, neg_ℤ, unsigned_abs, refl, arith, ap, sym, ◌∙◌, subst}
 use Rattle.std.specs.Prelude.{if◌then◌else◌}
 use Rattle.std.specs.Ordering.{int_eq}
 use Rattle.std.specs.Int.{◌∣◌}
@@ -8,14 +8,18 @@ use Rattle.std.proofs.Math.Nat.{eq-zero_of_zero-dvd, mul-le-mul_right, one-dvd, 
 use Rattle.std.proofs.lemmas.Nat.Gcd.{le_of_dvd}
 use Rattle.std.proofs.lemmas.Int.{ints, by_lt_z, unsigned_abs-mul}
 use Rattle.std.proofs.lemmas.List.{get_or-map, length-map, take_more, length-take}
-use Rattle.std.proofs.lemmas.List.Elements.{All-map}
+use Rattle.std.proofs.lemmas.List.Elements.{All-map, All-nil, All-cons}
 use Rattle.lin_model.specs.declared.atom.Atom.{Atom}
 use Rattle.lin_model.specs.declared.form.FormTerm.{FormTerm}
+use Rattle.lin_model.specs.declared.atom.Cmp.{Cmp}
+use Rattle.lin_model.specs.declared.atom.Cmp.TheVariants.{Le, Lt, Ge, Gt, Eq, Ne}
+use Rattle.lin_model.specs.Conditions.{AtomFits}
 use Rattle.lin_model.specs.Form.{IsGcdOf, DividesAll}
-use Rattle.lin_model.specs.KeyAtom.{PlainKeyAtom, HasSmallCoefficients, IsCanonicalForm}
-use Rattle.canoniser.specs.Gathered.{coefficient}
-use Rattle.canoniser.specs.Forms.{terms_from, floor_div, divided}
+use Rattle.lin_model.specs.KeyAtom.{PlainKeyAtom, BeginsPositive, HasSmallCoefficients, IsCanonicalForm}
+use Rattle.canoniser.specs.Gathered.{coefficient, constant, loose}
+use Rattle.canoniser.specs.Forms.{terms_from, gathered, begins_negative, turned, oriented, floor_div, divided}
 use Rattle.canoniser.specs.Limits.{IsGathered, IsOriented}
+use Rattle.canoniser.proofs.GatheredLemmas.{factor_on-small, constants_of-small}
 use Rattle.canoniser.proofs.Arithmetic.{abs-positive, floor_div-exact, scale_up}
 
 -- ---- the terms of an atom over the variables of a list
@@ -60,15 +64,110 @@ All-chosen : (P : FormTerm → Type 0) (zero_too : Bool) (t : FormTerm) (ts : Li
 All-chosen P true t ts here all = all
 All-chosen P false t ts here all = All-cons P t ts (here refl) all
 
-All-terms_from : (P : FormTerm → Type 0) (k : ℕ) (vs : List ℕ) (atom : Atom) → ((n v : ℕ) → k ≤ n → n < k + length vs → Contains vs v → coefficient atom v ≢ pos 0 → P (record { var = n; coef = coefficient atom v })) → All P (terms_from k vs atom)
+differs : (x y : ℤ) → int_eq x y ≡ false → x ≢ y
+differs x y e same = grind (arith, ints)
+
+All-terms_from : (P : FormTerm → Type 0) (k : ℕ) (vs : List ℕ) (atom : Atom) → ((n v : ℕ) → k ≤ n → n < k + length vs → coefficient atom v ≢ pos 0 → P (record { var = n; coef = coefficient atom v })) → All P (terms_from k vs atom)
 All-terms_from P k [] atom each = All-nil P
 All-terms_from P k (v ∷ vs) atom each =
     All-chosen P (int_eq (coefficient atom v) (pos 0)) (record { var = k; coef = coefficient atom v }) (terms_from (suc k) vs atom)
-    (λ no_zero. each k v (omega arith) (omega arith) (0, omega arith, refl) ?)
-    (All-terms_from P (suc k) vs atom (λ n w low high in_rest. each n w (omega arith) (omega arith) (Contains-tail v vs w in_rest)))
+    (λ kept. each k v (omega arith) (omega arith) (differs (coefficient atom v) (pos 0) kept))
+    (All-terms_from P (suc k) vs atom (λ n w low high nonzero. each n w (omega arith) (omega arith) nonzero))
 
-Adjacent-cons : (t : FormTerm) (ts : List FormTerm) → All (λ u. t.var < u.var) ts → Ascends ts → Ascends (t ∷ ts)
-Adjacent-cons t ts above rest k d lt = ?
+-- ascending variables
+abbrev Ascend : List FormTerm → Type 0
+Ascend form = AllAdjacentBelow (λ t u. t.var < u.var) form (length form)
+
+Ascend-cons : (t : FormTerm) (ts : List FormTerm) → All (λ u. t.var < u.var) ts → Ascend ts → Ascend (t ∷ ts)
+Ascend-cons t ts above rest zero d lt = above 0 d (omega arith)
+Ascend-cons t ts above rest (suc k) d lt =
+    let shift : suc k + 1 ≡ suc (k + 1) = omega arith in
+    let next : get_or (t ∷ ts) (suc k + 1) d ≡ get_or ts (k + 1) d = ap (λ i. get_or (t ∷ ts) i d) shift in
+    omega (arith, ap (λ (u : FormTerm). u.var) next, rest k d (omega arith))
+
+Ascend-chosen : (zero_too : Bool) (t : FormTerm) (ts : List FormTerm) → All (λ u. t.var < u.var) ts → Ascend ts → Ascend (if zero_too then ts else t ∷ ts)
+Ascend-chosen true t ts above rest = rest
+Ascend-chosen false t ts above rest = Ascend-cons t ts above rest
+
+Ascend-terms_from : (k : ℕ) (vs : List ℕ) (atom : Atom) → Ascend (terms_from k vs atom)
+Ascend-terms_from k [] atom = λ i d lt. absurd (omega arith)
+Ascend-terms_from k (v ∷ vs) atom =
+    Ascend-chosen (int_eq (coefficient atom v) (pos 0)) (record { var = k; coef = coefficient atom v }) (terms_from (suc k) vs atom)
+    (All-terms_from (λ u. k < u.var) (suc k) vs atom (λ n w low high nonzero. omega arith))
+    (Ascend-terms_from (suc k) vs atom)
+
+-- the sizes
+pub coefficient-small : (atom : Atom) (v : ℕ) → AtomFits atom → unsigned_abs (coefficient atom v) ≤ 2 ^ 38
+coefficient-small atom v fits =
+    omega (arith, ints, factor_on-small v atom.left fits.left_terms, factor_on-small v atom.right fits.right_terms, fits.left.few, fits.right.few)
+
+constant-small : (atom : Atom) → AtomFits atom → unsigned_abs (constant atom) ≤ 2 ^ 47
+constant-small atom fits =
+    omega (arith, ints, constants_of-small atom.left fits.left_terms, constants_of-small atom.right fits.right_terms, fits.left.few, fits.right.few)
+
+loose-small : (cmp : Cmp) (c : ℤ) → unsigned_abs c ≤ 2 ^ 47 → unsigned_abs (loose cmp c) < 2 ^ 49
+loose-small Le c h = omega (arith, ints)
+loose-small Lt c h = omega (arith, ints)
+loose-small Ge c h = omega (arith, ints)
+loose-small Gt c h = omega (arith, ints)
+loose-small Eq c h = omega (arith, ints)
+loose-small Ne c h = omega (arith, ints)
+
+pub IsGathered-gathered : (order : List ℕ) (atom : Atom) → length order ≤ 64 → AtomFits atom → IsGathered (gathered order atom)
+IsGathered-gathered order atom few fits = record {
+  few_terms = omega (arith, length-terms_from 0 order atom, few);
+  variables = record {
+    ascend = Ascend-terms_from 0 order atom;
+    in_range = All-terms_from (λ t. t.var < 64) 0 order atom (λ n v low high nonzero. omega arith);
+  };
+  coefficients = record {
+    not_zero = All-terms_from (λ t. t.coef ≢ pos 0) 0 order atom (λ n v low high nonzero. nonzero);
+    small = All-terms_from (λ t. unsigned_abs t.coef < 2 ^ 40) 0 order atom (λ n v low high nonzero. omega (arith, coefficient-small atom v fits));
+  };
+  constant = loose-small atom.cmp (constant atom) (constant-small atom fits);
+}
+
+-- ---- both sides times -1
+
+-- a term with its coefficient negated
+abbrev opposite : FormTerm → FormTerm
+opposite t = record { var = t.var; coef = neg_ℤ t.coef }
+
+mapped-ascend : (f : FormTerm → FormTerm) (form : List FormTerm) → ((t : FormTerm) → (f t).var ≡ t.var) → Ascend form → Ascend (map f form)
+mapped-ascend f form same ascend k d lt =
+    let within : k + 1 < length form = omega (arith, length-map form f) in
+    let here = ap (λ (t : FormTerm). t.var) (get_or-map f form k d d (omega arith)) ∙ same (get_or form k d) in
+    let next = ap (λ (t : FormTerm). t.var) (get_or-map f form (k + 1) d d within) ∙ same (get_or form (k + 1) d) in
+    omega (arith, here, next, ascend k d within)
+
+pub IsGathered-turned : (a : PlainKeyAtom) → IsGathered a → IsGathered (turned a)
+IsGathered-turned a gathered = record {
+  few_terms = omega (arith, length-map a.form opposite, gathered.few_terms);
+  variables = record {
+    ascend = mapped-ascend opposite a.form (λ t. refl) gathered.variables.ascend;
+    in_range = All-map (λ t. t.var < 64) opposite a.form gathered.variables.in_range;
+  };
+  coefficients = record {
+    not_zero = All-map (λ t. t.coef ≢ pos 0) opposite a.form (λ k d lt e. gathered.coefficients.not_zero k d lt (omega (arith, ints, e)));
+    small = All-map (λ t. unsigned_abs t.coef < 2 ^ 40) opposite a.form (λ k d lt. omega (arith, ints, gathered.coefficients.small k d lt));
+  };
+  constant = omega (arith, ints, gathered.constant);
+}
+
+turned-positive : (form : List FormTerm) → begins_negative form ≡ true → BeginsPositive (map opposite form)
+turned-positive [] e d lt = absurd (omega arith)
+turned-positive (t ∷ ts) e d lt = grind (arith, ints)
+
+kept-positive : (form : List FormTerm) → All (λ t. t.coef ≢ pos 0) form → begins_negative form ≡ false → BeginsPositive form
+kept-positive [] nonzero e d lt = absurd (omega arith)
+kept-positive (t ∷ ts) nonzero e d lt = let h = nonzero 0 d lt in grind (arith, ints)
+
+oriented_by : (negative : Bool) (a : PlainKeyAtom) → begins_negative a.form ≡ negative → IsGathered a → IsOriented (if negative then turned a else a)
+oriented_by true a e gathered = record { gathered = IsGathered-turned a gathered; begins_positive = turned-positive a.form e }
+oriented_by false a e gathered = record { gathered = gathered; begins_positive = kept-positive a.form gathered.coefficients.not_zero e }
+
+pub IsOriented-oriented : (a : PlainKeyAtom) → IsGathered a → IsOriented (oriented a)
+IsOriented-oriented a gathered = oriented_by (begins_negative a.form) a refl gathered
 
 -- the greatest common divisor of small coefficients is positive and small
 divisor-positive : (n g : ℕ) → 0 < n → g ∣ n → 0 < g
@@ -110,13 +209,6 @@ from_parts : (P : FormTerm → Type 0) (g : ℕ) (form : List FormTerm) → All 
 from_parts P g form all k d lt =
     subst P (get_or-map (part g) form k d (part g d) lt) (all k (part g d) (omega (arith, length-map form (part g))))
 
-divided-ascend : (g : ℕ) (form : List FormTerm) → AllAdjacentBelow (λ t u. t.var < u.var) form (length form) → AllAdjacentBelow (λ t u. t.var < u.var) (divided g form) (length (divided g form))
-divided-ascend g form ascend k d lt =
-    let within : k + 1 < length form = omega (arith, length-map form (part g)) in
-    let here = get_or-map (part g) form k d d (omega arith) in
-    let next = get_or-map (part g) form (k + 1) d d within in
-    omega (arith, ap (λ (t : FormTerm). t.var) here, ap (λ (t : FormTerm). t.var) next, ascend k d within)
-
 divided-primitive : (g : ℕ) (form : List FormTerm) → 0 < g → IsGcdOf form g → IsGcdOf (divided g form) 1
 divided-primitive g form h gcd = record {
   divides = λ k d lt. one-dvd (unsigned_abs (get_or (divided g form) k d).coef);
@@ -135,7 +227,7 @@ IsCanonicalForm-divided a g some oriented gcd h =
       has_terms = omega (arith, same);
       few_terms = omega (arith, same, gathered.few_terms);
       variables = record {
-        ascend = divided-ascend g a.form gathered.variables.ascend;
+        ascend = mapped-ascend (part g) a.form (λ t. refl) gathered.variables.ascend;
         in_range = All-map (λ t. t.var < 64) (part g) a.form gathered.variables.in_range;
       };
       coefficients = record {

@@ -47,6 +47,8 @@ pub(crate) fn side_of(terms: &[Term]) -> Side
     requires named { NamesBelow 64 terms.now }
     ensures factors { (v : ℕ) → v < 64 → slice_index_or result.factors v (pos 0) ≡ factor_on v terms.now }
     ensures constant { result.constant ≡ constants_of terms.now }
+    ensures small_factors { (v : ℕ) → v < 64 → unsigned_abs (slice_index_or result.factors v (pos 0)) ≤ 2 ^ 37 }
+    ensures small_constant { unsigned_abs result.constant ≤ 2 ^ 46 }
     ensures fits { All TermFits terms.now }
 {
     let mut side = Side::empty();

@@ -1,5 +1,5 @@
 //! What an atom comes to over the variables of its slice.
-ghost use Rattle.std.specs.Prelude.{◌≡◌, ℕ, pos, ◌-ℤ◌, neg_ℤ, ◌^◌, ◌<◌, ◌≤◌, length, slice_index_or, unsigned_abs, All, IfOk, OnOk, List, [], ◌∷◌, ◌++◌, if◌then◌else◌};
+ghost use Rattle.std.specs.Prelude.{◌≡◌, ℕ, pos, ◌-ℤ◌, neg_ℤ, ◌^◌, ◌<◌, ◌≤◌, length, slice_index_or, unsigned_abs, All, IfOk, OnOk, map, List, [], ◌∷◌, ◌++◌, if◌then◌else◌};
 ghost use Rattle.std.specs.Ordering.{int_eq};
 
 ghost use Rattle.lin_model.specs.declared.atom.Atom.{Atom as AnyAtom};
@@ -141,11 +141,10 @@ fn oriented(alloc: Global, a: Linear) -> Result<Linear, NoMemory>
     ensures linear { IfOk result (λ b. b ≡ oriented a) }
     ensures limits { IfOk result (λ b. IsOriented b) }
 {
-    if begins_negative(&a.form) {
-        turned(alloc, &a)
-    } else {
-        Ok(a)
+    if !begins_negative(&a.form) {
+        return Ok(a);
     }
+    turned(alloc, &a)
 }
 
 /// Whether the first coefficient is negative.
@@ -161,14 +160,34 @@ fn begins_negative(form: &[FormTerm]) -> bool
 /// Both sides times -1.
 fn turned(alloc: Global, a: &Linear) -> Result<Linear, NoMemory>
     requires { IsGathered a.now }
-    ensures { IfOk result (λ b. b ≡ turned a.now) }
+    ensures linear { IfOk result (λ b. b ≡ turned a.now) }
+    ensures limits { IfOk result (λ b. IsGathered b) }
 {
-    let form = a
-        .form
-        .iter()
-        .map(|t| FormTerm { var: t.var, coef: -t.coef })
-        .collect(alloc)?;
-    Ok(Linear { form, op: turned_op(a.op), constant: -a.constant })
+    Ok(Linear {
+        form: negated(alloc, &a.form)?,
+        op: turned_op(a.op),
+        constant: -a.constant,
+    })
+}
+
+/// Every coefficient times -1.
+fn negated(alloc: Global, form: &[FormTerm]) -> Result<Vec<FormTerm>, NoMemory>
+    requires { All (λ t. unsigned_abs t.coef < 2 ^ 40) form.now }
+    ensures { IfOk result (λ terms. terms.items
+        ≡ map (λ t. record { var = t.var; coef = neg_ℤ t.coef }) form.now) }
+{
+    let terms = form.iter().map(|t| opposite(*t)).collect(alloc)?;
+    Ok(terms)
+}
+
+fn opposite(term: FormTerm) -> FormTerm
+    requires { unsigned_abs term.coef < 2 ^ 40 }
+    ensures { result ≡ record { var = term.var; coef = neg_ℤ term.coef } }
+{
+    FormTerm {
+        var: term.var,
+        coef: -term.coef,
+    }
 }
 
 /// The comparison of two numbers with their signs changed.
