@@ -13,6 +13,7 @@ use Rattle.lin_model.specs.declared.atom.Atom.{Atom}
 use Rattle.lin_model.specs.declared.form.FormTerm.{FormTerm}
 use Rattle.lin_model.specs.declared.atom.Cmp.{Cmp}
 use Rattle.lin_model.specs.declared.atom.Cmp.TheVariants.{Le, Lt, Ge, Gt, Eq, Ne}
+use Rattle.lin_model.specs.declared.op.Op.{Op}
 use Rattle.lin_model.specs.Conditions.{AtomFits}
 use Rattle.lin_model.specs.Form.{IsGcdOf, DividesAll}
 use Rattle.lin_model.specs.KeyAtom.{PlainKeyAtom, BeginsPositive, HasSmallCoefficients, IsCanonicalForm}
@@ -21,6 +22,13 @@ use Rattle.canoniser.specs.Forms.{terms_from, gathered, begins_negative, turned,
 use Rattle.canoniser.specs.Limits.{IsGathered, IsOriented}
 use Rattle.canoniser.proofs.GatheredLemmas.{factor_on-small, constants_of-small}
 use Rattle.canoniser.proofs.Arithmetic.{abs-positive, floor_div-exact, scale_up}
+
+-- an atom by its parts
+pub same_parts : (form : List FormTerm) (op : Op) (constant : ℤ) (a : PlainKeyAtom) → form ≡ a.form → op ≡ a.op → constant ≡ a.constant → record { form = form; op = op; constant = constant } ≡ a
+same_parts form op constant a f o c = λ i. record { form = f i; op = o i; constant = c i }
+
+pub IsGathered-same : (a b : PlainKeyAtom) → a ≡ b → IsGathered b → IsGathered a
+IsGathered-same a b e gathered = subst IsGathered (sym e) gathered
 
 -- ---- the terms of an atom over the variables of a list
 
@@ -214,8 +222,8 @@ divided-primitive g form h gcd = record {
   divides = λ k d lt. one-dvd (unsigned_abs (get_or (divided g form) k d).coef);
   greatest = λ e all.
       let each : DividesAll (g * e) form = λ k d lt.
-          let whole = quotient-size (get_or form k d).coef g h (gcd.divides k d lt) in
-          subst (λ n. g * e ∣ n) (sym whole) (mul-dvd-mul_left e g (from_parts (λ t. e ∣ unsigned_abs t.coef) g form all k d lt)) in
+      let whole = quotient-size (get_or form k d).coef g h (gcd.divides k d lt) in
+      subst (λ n. g * e ∣ n) (sym whole) (mul-dvd-mul_left e g (from_parts (λ t. e ∣ unsigned_abs t.coef) g form all k d lt)) in
       dvd_of_mul-dvd-mul_left e h (subst (λ n. g * e ∣ n) (omega arith) (gcd.greatest (g * e) each));
 }
 

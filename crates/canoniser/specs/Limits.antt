@@ -1,6 +1,5 @@
 -- Atoms that only a division keeps from being canonical.
-use Rattle.std.specs.Prelude.{◌^◌, ◌<◌, ◌≤◌, List, length, unsigned_abs}
-use Rattle.lin_model.specs.declared.form.FormTerm.{FormTerm}
+use Rattle.std.specs.Prelude.{◌^◌, ◌<◌, ◌≤◌, length, unsigned_abs}
 use Rattle.lin_model.specs.KeyAtom.{AscendsBelow64, HasSmallCoefficients, BeginsPositive, PlainKeyAtom}
 
 -- at most 64 terms by ascending variables, with small coefficients that aren't 0, and a small constant

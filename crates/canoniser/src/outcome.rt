@@ -1,7 +1,6 @@
 //! What an atom comes to over the variables of its slice.
 ghost use Rattle.std.specs.Prelude.{◌≡◌, ℕ, pos, ◌-ℤ◌, neg_ℤ, ◌^◌, ◌<◌, ◌≤◌, length, slice_index_or, unsigned_abs, All, IfOk, OnOk, map, List, [], ◌∷◌, ◌++◌, if◌then◌else◌};
 ghost use Rattle.std.specs.Ordering.{int_eq};
-
 ghost use Rattle.lin_model.specs.declared.atom.Atom.{Atom as AnyAtom};
 ghost use Rattle.lin_model.specs.Conditions.{AtomFits, AtomNamesBelow};
 ghost use Rattle.lin_model.specs.Form.{IsGcdOf};
@@ -71,11 +70,20 @@ fn gathered(alloc: Global, order: &[u32], atom: &Atom) -> Result<Linear, NoMemor
     let right = side_of(atom.right.terms());
     let form = terms_of(alloc, order, &left, &right)?;
     let constant = loose(atom.cmp, difference(right.constant, left.constant));
-    Ok(Linear { form, op: op_of(atom.cmp), constant })
+    Ok(Linear {
+        form,
+        op: op_of(atom.cmp),
+        constant,
+    })
 }
 
 /// The terms over the variables of `order`, without coefficients 0.
-fn terms_of(alloc: Global, order: &[u32], left: &Side, right: &Side) -> Result<Vec<FormTerm>, NoMemory>
+fn terms_of(
+    alloc: Global,
+    order: &[u32],
+    left: &Side,
+    right: &Side,
+) -> Result<Vec<FormTerm>, NoMemory>
     requires few { length order.now ≤ 64 }
     requires in_range { All (λ v. v < 64) order.now }
     requires small_left { (v : ℕ) → v < 64 → unsigned_abs (slice_index_or left.now.factors v (pos 0)) ≤ 2 ^ 37 }
@@ -247,7 +255,10 @@ fn exact(alloc: Global, a: &Linear, otherwise: Outcome, divisor: u64) -> Result<
     requires positive { 0 < divisor }
     requires small { divisor < 2 ^ 40 }
     ensures { IfOk result (λ outcome. meaning outcome ≡ (if divides divisor a.now.constant then says (record {
-        form = divided divisor a.now.form; op = a.now.op; constant = floor_div a.now.constant divisor }) else meaning otherwise)) }
+      form = divided divisor a.now.form;
+      op = a.now.op;
+      constant = floor_div a.now.constant divisor;
+    }) else meaning otherwise)) }
 {
     if divides(divisor, a.constant) {
         says(alloc, a, floor_div(a.constant, divisor), divisor)
@@ -265,7 +276,10 @@ fn says(alloc: Global, a: &Linear, constant: i64, divisor: u64) -> Result<Outcom
     requires small { divisor < 2 ^ 40 }
     requires constant { unsigned_abs constant < 2 ^ 50 }
     ensures { IfOk result (λ outcome. meaning outcome ≡ says (record {
-        form = divided divisor a.now.form; op = a.now.op; constant = constant })) }
+      form = divided divisor a.now.form;
+      op = a.now.op;
+      constant = constant;
+    })) }
 {
     let form = Form::new(divided(alloc, &a.form, divisor)?);
     Ok(Outcome::Says(KeyAtom::new(form, a.op, constant).unwrap()))
@@ -280,7 +294,10 @@ fn divided(alloc: Global, form: &[FormTerm], divisor: u64) -> Result<Vec<FormTer
     let divisor = divisor as i64;
     let terms = form
         .iter()
-        .map(|t| FormTerm { var: t.var, coef: t.coef.div_euclid(divisor) })
+        .map(|t| FormTerm {
+            var: t.var,
+            coef: t.coef.div_euclid(divisor),
+        })
         .collect(alloc)?;
     Ok(terms)
 }

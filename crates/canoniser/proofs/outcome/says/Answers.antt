@@ -1,6 +1,5 @@
-use Rattle.std.proofs.Common.{◌≡◌, ℤ, sym, subst, ap, arith, ◌∙◌}
-use Rattle.std.specs.Prelude.{unsigned_abs}
-use Rattle.std.proofs.lemmas.Int.{ints, to_z-of_z}
+use Rattle.std.proofs.Common.{◌≡◌, sym, subst, ap, arith, ◌∙◌}
+use Rattle.std.proofs.lemmas.Int.{ints}
 use Rattle.lin_model.specs.KeyAtom.{PlainKeyAtom, IsCanonicalForm}
 use Rattle.canoniser.specs.Forms.{divided}
 use Rattle.canoniser.proofs.LimitsLemmas.{IsCanonicalForm-divided}
