@@ -1,4 +1,5 @@
 mod Arithmetic
 mod GatheredLemmas
 mod LimitsLemmas
+mod NumberingLemmas
 mod Worked

@@ -1,5 +1,5 @@
 -- The key of a slice.
-use Rattle.std.specs.Prelude.{◌≡◌, ◌⊎◌, ◌↔◌, ℕ, ◌<◌, ℤ, IsSomeAnd, List, length, slice_index, Contains, All, Any}
+use Rattle.std.specs.Prelude.{◌≡◌, ◌⊎◌, ◌↔◌, ℕ, ◌<◌, IsSomeAnd, List, length, slice_index, Contains, All, Any}
 use Rattle.std.specs.List.{slice_get}
 use Rattle.lin_model.specs.declared.op.Op.TheVariants.{Le, Ge}
 use Rattle.lin_model.specs.Terms.{PlainVar}
@@ -9,7 +9,7 @@ use Rattle.lin_model.specs.Key.{Ascends}
 use Rattle.lin_model.specs.Bounded.{variable}
 use Rattle.atom_implies.specs.Implies.{Implies}
 use Rattle.slicer.specs.Slices.{PlainSlice, AreSlices}
-use Rattle.canoniser.specs.Forms.{Outcome, never, says, ComesTo}
+use Rattle.canoniser.specs.Forms.{never, says, ComesTo}
 use Rattle.canoniser.specs.Numbering.{atoms_of, order_of}
 
 -- it is one of the condition's slices

@@ -5,6 +5,7 @@ mod back;
 mod canonical;
 mod gathered;
 mod laws;
+mod numbering;
 mod outcome;
 
 pub use back::Back;
