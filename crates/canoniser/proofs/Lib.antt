@@ -2,4 +2,6 @@ mod Arithmetic
 mod GatheredLemmas
 mod LimitsLemmas
 mod NumberingLemmas
+mod SideLemmas
+mod MeaningLemmas
 mod Worked
