@@ -177,18 +177,31 @@ oriented_by false a e gathered = record { gathered = gathered; begins_positive =
 pub IsOriented-oriented : (a : PlainKeyAtom) → IsGathered a → IsOriented (oriented a)
 IsOriented-oriented a gathered = oriented_by (begins_negative a.form) a refl gathered
 
+nonzero_by : (negative : Bool) (a : PlainKeyAtom) → All (λ t. t.coef ≢ pos 0) a.form → All (λ t. t.coef ≢ pos 0) (if negative then turned a else a).form
+nonzero_by true a nonzero =
+    All-map (λ t. t.coef ≢ pos 0) opposite a.form (λ k d lt e. nonzero k d lt (omega (arith, ints, e)))
+nonzero_by false a nonzero = nonzero
+
+-- without limits on the atom
+pub nonzero-oriented : (order : List ℕ) (atom : Atom) → All (λ t. t.coef ≢ pos 0) (oriented (gathered order atom)).form
+nonzero-oriented order atom =
+    nonzero_by (begins_negative (gathered order atom).form) (gathered order atom) (All-terms_from (λ t. t.coef ≢ pos 0) 0 order atom (λ n v low high nonzero. nonzero))
+
 -- the greatest common divisor of small coefficients is positive and small
 divisor-positive : (n g : ℕ) → 0 < n → g ∣ n → 0 < g
 divisor-positive n zero h d = absurd (omega (arith, eq-zero_of_zero-dvd d))
 divisor-positive n (suc g) h d = omega arith
 
+pub gcd-positive : (form : List FormTerm) (g : ℕ) → 0 < length form → All (λ t. t.coef ≢ pos 0) form → IsGcdOf form g → 0 < g
+gcd-positive form g some nonzero gcd =
+    let d : FormTerm = record { var = 0; coef = pos 0 } in
+    divisor-positive (unsigned_abs (get_or form 0 d).coef) g (abs-positive (get_or form 0 d).coef (nonzero 0 d some)) (gcd.divides 0 d some)
+
 pub divisor-limits : (form : List FormTerm) (g : ℕ) → 0 < length form → HasSmallCoefficients form → IsGcdOf form g → (0 < g) × (g < 2 ^ 40)
 divisor-limits form g some coefficients gcd =
     let d : FormTerm = record { var = 0; coef = pos 0 } in
-    let size = abs-positive (get_or form 0 d).coef (coefficients.not_zero 0 d some) in (
-      divisor-positive (unsigned_abs (get_or form 0 d).coef) g size (gcd.divides 0 d some),
-      omega (arith, le_of_dvd size (gcd.divides 0 d some), coefficients.small 0 d some),
-    )
+    let size = abs-positive (get_or form 0 d).coef (coefficients.not_zero 0 d some) in
+    (gcd-positive form g some coefficients.not_zero gcd, omega (arith, le_of_dvd size (gcd.divides 0 d some), coefficients.small 0 d some))
 
 -- ---- a division
 
