@@ -1,3 +1,9 @@
+mod Arithmetic
+mod GatheredLemmas
+mod LimitsLemmas
+mod NumberingLemmas
+mod SideLemmas
+mod MeaningLemmas
 mod Worked
 mod PartLemmas
 mod ImplicationLemmas

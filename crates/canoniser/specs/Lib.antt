@@ -1,9 +1,11 @@
 pub mod Gathered
 pub mod Numbering
 pub mod Forms
+pub mod Limits
+pub mod Meaning
 pub mod Keys
 pub mod Parts
-pub mod Solutions
 pub mod Strongest
+pub mod Solutions
 pub mod Said
 pub mod Answers

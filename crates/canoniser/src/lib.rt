@@ -4,6 +4,7 @@
 mod back;
 mod bounds;
 mod canonical;
+mod gathered;
 mod implied;
 mod keys;
 mod laws;
