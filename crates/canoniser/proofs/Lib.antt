@@ -4,4 +4,6 @@ mod LimitsLemmas
 mod NumberingLemmas
 mod SideLemmas
 mod MeaningLemmas
+mod CanonicalLemmas
+mod PossibleLemmas
 mod Worked
