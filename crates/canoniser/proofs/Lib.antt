@@ -4,6 +4,8 @@ mod LimitsLemmas
 mod NumberingLemmas
 mod SideLemmas
 mod MeaningLemmas
+mod CanonicalLemmas
+mod PossibleLemmas
 mod Worked
 mod PartLemmas
 mod ImplicationLemmas

@@ -68,7 +68,7 @@ length-terms_from k (v ∷ vs) atom =
     length-chosen (int_eq (coefficient atom v) (pos 0)) (record { var = k; coef = coefficient atom v }) (terms_from (suc k) vs atom) (length vs) (length-terms_from (suc k) vs atom)
 
 -- what holds of each term that isn't left out holds of all
-All-chosen : (P : FormTerm → Type 0) (zero_too : Bool) (t : FormTerm) (ts : List FormTerm) → (zero_too ≡ false → P t) → All P ts → All P (if zero_too then ts else t ∷ ts)
+pub All-chosen : (P : FormTerm → Type 0) (zero_too : Bool) (t : FormTerm) (ts : List FormTerm) → (zero_too ≡ false → P t) → All P ts → All P (if zero_too then ts else t ∷ ts)
 All-chosen P true t ts here all = all
 All-chosen P false t ts here all = All-cons P t ts (here refl) all
 
@@ -186,6 +186,14 @@ nonzero_by false a nonzero = nonzero
 pub nonzero-oriented : (order : List ℕ) (atom : Atom) → All (λ t. t.coef ≢ pos 0) (oriented (gathered order atom)).form
 nonzero-oriented order atom =
     nonzero_by (begins_negative (gathered order atom).form) (gathered order atom) (All-terms_from (λ t. t.coef ≢ pos 0) 0 order atom (λ n v low high nonzero. nonzero))
+
+narrow_by : (negative : Bool) (n : ℕ) (a : PlainKeyAtom) → All (λ t. t.var < n) a.form → All (λ t. t.var < n) (if negative then turned a else a).form
+narrow_by true n a narrow = All-map (λ t. t.var < n) opposite a.form narrow
+narrow_by false n a narrow = narrow
+
+pub narrow-oriented : (order : List ℕ) (atom : Atom) → All (λ t. t.var < length order) (oriented (gathered order atom)).form
+narrow-oriented order atom =
+    narrow_by (begins_negative (gathered order atom).form) (length order) (gathered order atom) (All-terms_from (λ t. t.var < length order) 0 order atom (λ n v low high nonzero. omega arith))
 
 -- the greatest common divisor of small coefficients is positive and small
 divisor-positive : (n g : ℕ) → 0 < n → g ∣ n → 0 < g

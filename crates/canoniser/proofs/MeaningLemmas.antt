@@ -85,7 +85,7 @@ gathered-holds order atom values distinct named =
 
 -- ---- both sides times -1
 
-turned-value : (form : List FormTerm) (point : List ℤ) → form_value (map (λ t. record { var = t.var; coef = neg_ℤ t.coef }) form) point ≡ neg_ℤ (form_value form point)
+pub turned-value : (form : List FormTerm) (point : List ℤ) → form_value (map (λ t. record { var = t.var; coef = neg_ℤ t.coef }) form) point ≡ neg_ℤ (form_value form point)
 turned-value [] point = omega (arith, ints)
 turned-value (t ∷ ts) point =
     omega (arith, ints, neg_left t.coef (value_at point t.var), turned-value ts point)
@@ -107,7 +107,7 @@ oriented-holds order atom values distinct named =
 
 -- ---- both sides divided
 
-divided-value : (g : ℕ) (form : List FormTerm) (point : List ℤ) → 0 < g → DividesAll g form → form_value form point ≡ pos g *ℤ form_value (divided g form) point
+pub divided-value : (g : ℕ) (form : List FormTerm) (point : List ℤ) → 0 < g → DividesAll g form → form_value form point ≡ pos g *ℤ form_value (divided g form) point
 divided-value g [] point h all = omega (arith, ints)
 divided-value g (t ∷ ts) point h all =
     let q = floor_div t.coef g in
@@ -117,7 +117,7 @@ divided-value g (t ∷ ts) point h all =
     omega (arith, ints, exact, times_assoc (pos g) q x, distrib_left (pos g) (q *ℤ x) (form_value (divided g ts) point), rest)
 
 -- a positive factor of both sides
-times_same : (g : ℕ) (a b : ℤ) → 0 < g → pos g *ℤ a ≡ pos g *ℤ b → a ≡ b
+pub times_same : (g : ℕ) (a b : ℤ) → 0 < g → pos g *ℤ a ≡ pos g *ℤ b → a ≡ b
 times_same g a b h e =
     by_lt_z a b (λ less. absurd (above a b less e))
     (λ le. by_lt_z b a (λ less. absurd (above b a less (sym e))) (λ ge. omega (arith, ints)))
@@ -185,7 +185,7 @@ outcome-means (t ∷ ts) op c outcome nonzero made =
 
 -- ---- what an atom comes to
 
-oriented-means : (order : List ℕ) (atom : Atom) (outcome : Outcome) → ComesTo order atom outcome → Means (oriented (gathered order atom)).form (oriented (gathered order atom)).op (oriented (gathered order atom)).constant outcome
+pub oriented-means : (order : List ℕ) (atom : Atom) (outcome : Outcome) → ComesTo order atom outcome → Means (oriented (gathered order atom)).form (oriented (gathered order atom)).op (oriented (gathered order atom)).constant outcome
 oriented-means order atom outcome comes =
     let a = oriented (gathered order atom) in
     outcome-means a.form a.op a.constant outcome (nonzero-oriented order atom) comes

@@ -135,11 +135,15 @@ form_value-terms_from k (v ∷ vs) atom point values reads =
     let rest = form_value-terms_from (suc k) vs atom point values (λ i n within e. reads (suc i) n (omega arith) (omega arith)) in
     omega (arith, ints, form_value-chosen (int_eq coef (pos 0)) (record { var = k; coef = coef }) (terms_from (suc k) vs atom) point (is_zero coef), ap (λ (x : ℤ). coef *ℤ x) here, rest)
 
+pub form_value-gathered : (order : List ℕ) (atom : Atom) (values : List ℤ) → form_value (terms_from 0 order atom) (point_of order values) ≡ weighted (coefficient atom) order values
+form_value-gathered order atom values =
+    form_value-terms_from 0 order atom (point_of order values) values (λ i n within e. ap (value_at (point_of order values)) (e ∙ omega arith) ∙ get_or-map (λ v. value_at values v) order i 0 (pos 0) within)
+
 -- the difference of the sides
 pub gathered_value : (order : List ℕ) (atom : Atom) (values : List ℤ) → AllPairs ◌≢◌ order → ((v : ℕ) → Names atom v → Contains order v) → value_of atom.left values -ℤ value_of atom.right values ≡ form_value (terms_from 0 order atom) (point_of order values) -ℤ constant atom
 gathered_value order atom values distinct named =
     let left = value_of-is atom.left order values distinct (λ w has. named w (Contains-append_left (side_vars atom.left) (side_vars atom.right) w has)) in
     let right = value_of-is atom.right order values distinct (λ w has. named w (Contains-append_right (side_vars atom.left) (side_vars atom.right) w has)) in
-    let form = form_value-terms_from 0 order atom (point_of order values) values (λ i n within e. ap (value_at (point_of order values)) (e ∙ omega arith) ∙ get_or-map (λ v. value_at values v) order i 0 (pos 0) within) in
+    let form = form_value-gathered order atom values in
     let minus = weighted-minus (λ v. factor_on v atom.left) (λ v. factor_on v atom.right) order values in
     omega (arith, ints, left, right, form, minus)
