@@ -17,16 +17,19 @@ use Rattle.canoniser.specs.Strongest.{IsKeyWithBounds, IsOneOf}
 use Rattle.canoniser.specs.Solutions.{point_of, SliceHolds, HaveSameSolutions, IsCanonised}
 use Rattle.canoniser.specs.Said.{AreSaid, ArePossible}
 use Rattle.canoniser.proofs.KeyLemmas.{bound_holds, covered_holds, KeepsBounds-covered, key_width-order, IsBounded-covered}
-use Rattle.canoniser.proofs.Assumed.{NamesOnly, order_of-distinct, order_of-vars, order_of-names, says-holds, always-holds, one_outcome, says-narrow}
+use Rattle.canoniser.proofs.SliceLemmas.{NamesOnly}
+use Rattle.canoniser.proofs.MeaningLemmas.{says-holds, always-holds}
+use Rattle.canoniser.proofs.CanonicalLemmas.{one-outcome, says-narrow}
+use Rattle.canoniser.proofs.Assumed.{order_of-distinct, order_of-vars, order_of-names}
 
 -- an atom that comes to one thing comes to no other
 same_saying : (order : List ℕ) (atom : Atom) (a b : PlainKeyAtom) → ComesTo order atom (says a) → ComesTo order atom (says b) → a ≡ b
-same_saying order atom a b one two = let same = one_outcome order atom (says a) (says b) one two in cc
+same_saying order atom a b one two = let same = one-outcome order atom (says a) (says b) one two in cc
 
 not_never : (order : List ℕ) (atom : Atom) (canonical : List PlainKeyAtom) → ComesTo order atom always ⊎ Any (λ a. ComesTo order atom (says a)) canonical → ¬ ComesTo order atom never
 not_never order atom canonical one is = elim one [
-  | inl holds ↦ (let same = one_outcome order atom always never holds is in let none : ⊥ = cc in none)
-  | inr any ↦ (let same = one_outcome order atom (says any.1) never any.4 is in let none : ⊥ = cc in none)
+  | inl holds ↦ (let same = one-outcome order atom always never holds is in let none : ⊥ = cc in none)
+  | inr any ↦ (let same = one-outcome order atom (says any.1) never any.4 is in let none : ⊥ = cc in none)
 ]
 
 -- the canonical atoms are just what the atoms say
@@ -36,7 +39,7 @@ said_from order atoms canonical said a = (
   λ any.
       let atom = any.1 in
       elim (All-contains (λ x. ComesTo order x always ⊎ Any (λ b. ComesTo order x (says b)) canonical) atoms atom said.each (any.0, any.2, any.3)) [
-        | inl holds ↦ (let same = one_outcome order atom always (says a) holds any.4 in absurd (cc))
+        | inl holds ↦ (let same = one-outcome order atom always (says a) holds any.4 in absurd (cc))
         | inr other ↦ subst (Contains canonical) (same_saying order atom other.1 a other.4 any.4) (other.0, other.2, other.3)
       ],
 )

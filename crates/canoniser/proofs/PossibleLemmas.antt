@@ -237,7 +237,7 @@ says-is-possible order atom a distinct named comes impossible =
     let point = point_of order found.values in
     let positive = gcd-positive o.form g made.some (nonzero-oriented order atom) made.greatest in
     let divided_is : form_value (divided g o.form) point ≡ target.0 =
-        times_same g (form_value (divided g o.form) point) target.0 positive (sym (divided-value g o.form point positive made.greatest.divides) ∙ found.value) in
+    times_same g (form_value (divided g o.form) point) target.0 positive (sym (divided-value g o.form point positive made.greatest.divides) ∙ found.value) in
     let value : form_value a.form point ≡ target.0 = ap (λ (f : List FormTerm). form_value f point) made.quotient.form_is ∙ divided_is in
     let holds : HoldsAt a point = subst (Passes a.op a.constant) (sym value) target.1 in
     impossible found.values ((oriented-holds order atom found.values distinct named).1 ((oriented-means order atom (says a) comes point).1 holds))

@@ -18,7 +18,6 @@ use Rattle.canoniser.specs.Keys.{IsSliceIn}
 use Rattle.canoniser.specs.Solutions.{IsNever, IsNeverAt, IsFirstNever}
 use Rattle.canoniser.specs.Said.{AreSaid, ArePossible}
 use Rattle.canoniser.proofs.Lookups.{Found, Found-from, IsSomeAnd-found}
-use Rattle.canoniser.proofs.Assumed.{NamesOnly}
 
 -- the atoms of these numbers
 abbrev pub atoms_at : PlainCondition → List ℕ → List Atom

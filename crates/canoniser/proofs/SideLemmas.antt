@@ -80,10 +80,10 @@ weighted-one : (w : ℕ) (n : ℤ) (vs : List ℕ) (values : List ℤ) → AllPa
 weighted-one w n [] values distinct has = absurd (omega (arith, has.1))
 weighted-one w n (v ∷ vs) values distinct has =
     elim (Contains-cases v vs w has) [
-      inl same ↦
+      | inl same ↦
           let none = weighted-zero (one w n) vs values (λ u there. one-other w n u (λ e. distinct-head v vs distinct (subst (Contains vs) (sym e ∙ sym same) there))) in
           omega (arith, ints, ap (λ (x : ℤ). x *ℤ value_at values v) (one-same w n v (sym same)), ap (λ (u : ℕ). n *ℤ value_at values u) same, none)
-    | inr behind ↦
+      | inr behind ↦
           let other : w ≢ v = λ e. distinct-head v vs distinct (subst (Contains vs) e behind) in
           omega (arith, ints, zero_times (one w n v) (value_at values v) (one-other w n v other), weighted-one w n vs values (distinct-tail v vs distinct) behind)
     ]

@@ -11,6 +11,10 @@ use Rattle.slicer.specs.Slices.{PlainSlice, Lists, IsSliceOf, IsVariableFree, Is
 use Rattle.canoniser.specs.Keys.{IsSliceIn}
 use Rattle.canoniser.proofs.Lookups.{within_from_IsSomeAnd}
 
+-- an atom names only variables of the list
+abbrev pub NamesOnly : List ℕ → Atom → Type 0
+NamesOnly order atom = (v : ℕ) → Names atom v → Contains order v
+
 -- the numbers of a slice's atoms ascend, and both lists have numbers of the condition
 pub record IsWithin (c : PlainCondition) (s : PlainSlice) : Type 0 where
   pub ascending : AllPairs ◌<◌ s.atoms

@@ -13,9 +13,11 @@ use Rattle.canoniser.specs.Numbering.{atoms_of, order_of}
 use Rattle.canoniser.specs.Keys.{IsSliceIn}
 use Rattle.canoniser.specs.Solutions.{IsNever, IsFirstNever}
 use Rattle.canoniser.specs.Said.{AreSaid, ArePossible}
-use Rattle.canoniser.proofs.SliceLemmas.{IsWithin-slice}
+use Rattle.canoniser.proofs.SliceLemmas.{NamesOnly, IsWithin-slice}
 use Rattle.canoniser.proofs.SaidLemmas.{atoms_at, atoms_at-more, AreSaid-none, AreSaid-always, AreSaid-says, NoneNever, NoneNever-more, IsFirstNever-here, AtomNamesBelow-64}
-use Rattle.canoniser.proofs.Assumed.{NamesOnly, order_of-distinct, order_of-vars, order_of-few, order_of-names, never-is-never, always-is-possible, says-is-possible}
+use Rattle.canoniser.proofs.MeaningLemmas.{never-is-never}
+use Rattle.canoniser.proofs.PossibleLemmas.{always-is-possible, says-is-possible}
+use Rattle.canoniser.proofs.Assumed.{order_of-distinct, order_of-vars, order_of-few, order_of-names}
 
 -- the atom stands at a place of the slice, whose variables are in this order
 pub record IsTurn (c : PlainCondition) (s : PlainSlice) (order : List ℕ) (i : ℕ) (atom : Atom) : Type 0 where
