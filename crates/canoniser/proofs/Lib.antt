@@ -18,3 +18,4 @@ mod KeyLemmas
 mod SaidLemmas
 mod TurnLemmas
 mod CanonisedLemmas
+mod SelectLemmas
