@@ -1,5 +1,5 @@
 -- What a side is worth, by the factors of the variables of a list.
-use Rattle.std.proofs.Common.{◌≡◌, ◌≢◌, ℕ, zero, suc, ◌+◌, ◌<◌, Bool, true, false, eqb, List, [], ◌∷◌, length, get_or, map, ℤ, pos, ◌+ℤ◌, ◌-ℤ◌, ◌*ℤ◌, neg_ℤ, ◌⊎◌, inl, inr, refl, arith, ap, sym, subst, ◌∙◌}
+use Rattle.std.proofs.Common.{◌≡◌, ◌≢◌, ℕ, zero, suc, ◌+◌, ◌<◌, Bool, true, false, List, [], ◌∷◌, length, get_or, ℤ, pos, ◌+ℤ◌, ◌-ℤ◌, ◌*ℤ◌, neg_ℤ, ◌⊎◌, inl, inr, refl, arith, ap, sym, subst, ◌∙◌}
 use Rattle.std.specs.Prelude.{Option, Some, None, IfSome, Contains, AllPairs, is_some, if◌then◌else◌, ◌==◌}
 use Rattle.std.specs.List.{cons_option}
 use Rattle.std.specs.Ordering.{int_eq}
@@ -80,10 +80,10 @@ weighted-one : (w : ℕ) (n : ℤ) (vs : List ℕ) (values : List ℤ) → AllPa
 weighted-one w n [] values distinct has = absurd (omega (arith, has.1))
 weighted-one w n (v ∷ vs) values distinct has =
     elim (Contains-cases v vs w has) [
-      inl same ↦
+      | inl same ↦
           let none = weighted-zero (one w n) vs values (λ u there. one-other w n u (λ e. distinct-head v vs distinct (subst (Contains vs) (sym e ∙ sym same) there))) in
           omega (arith, ints, ap (λ (x : ℤ). x *ℤ value_at values v) (one-same w n v (sym same)), ap (λ (u : ℕ). n *ℤ value_at values u) same, none)
-    | inr behind ↦
+      | inr behind ↦
           let other : w ≢ v = λ e. distinct-head v vs distinct (subst (Contains vs) e behind) in
           omega (arith, ints, zero_times (one w n v) (value_at values v) (one-other w n v other), weighted-one w n vs values (distinct-tail v vs distinct) behind)
     ]
