@@ -1,5 +1,5 @@
 -- The atom that an atom comes to: it is canonical, narrow, and the only one.
-use Rattle.std.proofs.Common.{◌≡◌, ◌≢◌, ℕ, suc, ◌+◌, ◌/◌, ◌^◌, ◌<◌, ◌≤◌, max, Bool, true, false, List, [], ◌∷◌, length, map, ℤ, pos, negsuc, neg_ℤ, unsigned_abs, refl, arith, ap, sym, subst, ◌∙◌}
+use Rattle.std.proofs.Common.{◌≡◌, ℕ, ◌<◌, ◌≤◌, Bool, true, false, List, [], ◌∷◌, length, ℤ, pos, negsuc, neg_ℤ, unsigned_abs, arith, ap, sym, subst, ◌∙◌}
 use Rattle.std.specs.Prelude.{if◌then◌else◌}
 use Rattle.std.specs.List.{All}
 use Rattle.std.proofs.Math.Nat.{div-le_self}
@@ -14,8 +14,8 @@ use Rattle.lin_model.specs.declared.form.FormTerm.{FormTerm}
 use Rattle.lin_model.specs.declared.op.Op.{Op}
 use Rattle.lin_model.specs.declared.op.Op.TheVariants.{Le, Ge, Eq, Ne}
 use Rattle.lin_model.proofs.FormLemmas.{same_from_IsGcdOf}
-use Rattle.canoniser.specs.Forms.{Outcome, always, never, says, gathered, oriented, turned, begins_negative, floor_div, ceil_div, divides, divided, reduced, alone, IsOutcome, ComesTo}
-use Rattle.canoniser.proofs.LimitsLemmas.{gcd-positive, nonzero-oriented, narrow-oriented, IsGathered-gathered, IsOriented-oriented, IsCanonicalForm-divided}
+use Rattle.canoniser.specs.Forms.{Outcome, always, never, says, gathered, oriented, floor_div, ceil_div, divides, divided, reduced, IsOutcome, ComesTo}
+use Rattle.canoniser.proofs.LimitsLemmas.{gcd-positive, narrow-oriented, IsGathered-gathered, IsOriented-oriented, IsCanonicalForm-divided}
 
 -- ---- sizes of quotients
 

@@ -1,6 +1,7 @@
 mod Arithmetic
 mod GatheredLemmas
 mod LimitsLemmas
+mod GainsLemmas
 mod NumberingLemmas
 mod SideLemmas
 mod MeaningLemmas

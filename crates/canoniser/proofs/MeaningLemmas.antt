@@ -1,16 +1,16 @@
 -- What an atom comes to holds where the atom holds.
-use Rattle.std.proofs.Common.{◌≡◌, ◌≢◌, ℕ, ◌<◌, ◌*◌, ◌%◌, ◌↔◌, Bool, true, false, List, [], ◌∷◌, length, map, ℤ, pos, ◌+ℤ◌, ◌-ℤ◌, ◌*ℤ◌, neg_ℤ, ◌≤ℤ◌, ◌<ℤ◌, refl, arith, eqb-true, eq-eqb, ap, sym, subst, ◌∙◌}
+use Rattle.std.proofs.Common.{◌≡◌, ◌≢◌, ℕ, ◌<◌, ◌*◌, ◌%◌, ◌↔◌, Bool, true, false, List, [], ◌∷◌, map, ℤ, pos, ◌+ℤ◌, ◌-ℤ◌, ◌*ℤ◌, neg_ℤ, ◌≤ℤ◌, ◌<ℤ◌, refl, arith, eqb-true, eq-eqb, ap, sym, subst, ◌∙◌}
 use Rattle.std.specs.Prelude.{IsTrue, Contains, AllPairs, int_le, not, unsigned_abs, if◌then◌else◌}
 use Rattle.std.specs.Int.{◌∣◌}
 use Rattle.std.specs.List.{All}
 use Rattle.std.proofs.lemmas.Nat.Gcd.{dvd_of_mod-eq-zero, mod-eq-zero_of_dvd}
-use Rattle.std.proofs.Math.Nat.{dvd-mul_right, mul-le-mul_left}
+use Rattle.std.proofs.Math.Nat.{dvd-mul_right}
 use Rattle.std.specs.Ordering.{int_eq}
 use Rattle.std.proofs.lemmas.Int.{ints, by_lt_z, unsigned_abs-mul}
 use Rattle.std.proofs.lemmas.List.Elements.{All-head, All-tail}
 use Rattle.lin_model.specs.Terms.{value_at, value_of}
 use Rattle.lin_model.specs.Truth.{Compares, AtomHolds}
-use Rattle.lin_model.specs.Form.{form_value, IsGcdOf, DividesAll}
+use Rattle.lin_model.specs.Form.{form_value, DividesAll}
 use Rattle.lin_model.specs.Test.{passes}
 use Rattle.lin_model.specs.KeyAtom.{PlainKeyAtom, KeyAtomHolds}
 use Rattle.lin_model.specs.declared.atom.Atom.{Atom}
@@ -21,7 +21,7 @@ use Rattle.lin_model.specs.declared.op.Op.{Op}
 use Rattle.lin_model.specs.declared.op.Op.TheVariants.{Le as AtMost, Ge as AtLeast, Eq as Equals, Ne as Differs}
 use Rattle.slicer.specs.Names.{Names}
 use Rattle.canoniser.specs.Gathered.{constant, op_of, loose}
-use Rattle.canoniser.specs.Forms.{Outcome, always, never, says, terms_from, gathered, oriented, turned, turned_op, begins_negative, floor_div, ceil_div, divides, divided, reduced, alone, IsReduced, IsOutcome, ComesTo}
+use Rattle.canoniser.specs.Forms.{Outcome, always, never, says, terms_from, gathered, oriented, turned, turned_op, begins_negative, floor_div, divides, divided, reduced, IsOutcome, ComesTo}
 use Rattle.canoniser.specs.Solutions.{point_of, IsNever}
 use Rattle.canoniser.proofs.Arithmetic.{neg_left, distrib_left, times_assoc, floor_div-exact, floor_div-above, ceil_div-below, scale_up}
 use Rattle.canoniser.proofs.LimitsLemmas.{gcd-positive, nonzero-oriented}

@@ -1,136 +1,180 @@
--- The variables of a slice, each at the place that is its number.
-use Rattle.std.proofs.Common.{◌≡◌, ℕ, ◌+◌, ◌<◌, Bool, true, false, not, ◌||◌, Option, ◌≤◌, List, [], ◌∷◌, ◌++◌, length, take, get_or, refl, sym, ap, ◌∙◌, subst, append_assoc, append-nil, arith, eqb-true, eq-eqb}
-use Rattle.std.specs.Prelude.{◌==◌, if◌then◌else◌}
-use Rattle.std.specs.List.{filter, list_any, cons_option, filter_map, flat_map, slice_get}
-use Rattle.std.proofs.lemmas.Bool.Decides.{nat_tests}
-use Rattle.std.proofs.lemmas.List.{take_more}
-use Rattle.std.proofs.lemmas.List.Elements.{filter-append, filter_map-append}
-use Rattle.std.proofs.lemmas.List.Concat.{flat_map-append}
-use Rattle.std.proofs.lemmas.Map.Views.{any-filter_same}
-use Rattle.std.proofs.lemmas.Option.{slice_get_past, slice_get_read}
-use Rattle.lin_model.specs.Terms.{PlainTerm}
-use Rattle.lin_model.specs.Conditions.{PlainCondition}
-use Rattle.slicer.specs.Slices.{PlainSlice}
+-- The variables of a slice, each at the place that is its number: which they are, and how many.
+use Rattle.std.proofs.Common.{◌≡◌, ◌≢◌, ℕ, suc, ◌<◌, ◌≤◌, ◌↔◌, ◌⊎◌, inl, inr, Bool, true, false, not, eqb, Option, Some, None, List, [], ◌∷◌, ◌++◌, length, get_or, refl, sym, ap, ◌∙◌, subst, arith, eqb-true}
+use Rattle.std.specs.Prelude.{◌==◌, if◌then◌else◌, AllPairs, Contains, IsSomeAnd}
+use Rattle.std.specs.List.{IsDistinct, cons_option, filter_map, flat_map, slice_get}
+use Rattle.std.proofs.lemmas.Bool.Decides.{nat_tests, eqb_tells}
+use Rattle.std.proofs.lemmas.List.Elements.{All-contains, All-filter, All-contains_itself, All-weaker, filter_passes, recursion_from_All, Contains-append_left, Contains-append_right, Contains-append_cases}
+use Rattle.std.proofs.lemmas.List.Kept.{AllPairs-cons, AllPairs-filter}
+use Rattle.std.proofs.lemmas.Map.Steps.{length-le_from_distinct_below}
+use Rattle.std.proofs.lemmas.Map.Views.{Contains-from_any}
+use Rattle.lin_model.specs.Conditions.{PlainCondition, Fits}
 use Rattle.lin_model.specs.declared.atom.Atom.{Atom}
-use Rattle.slicer.specs.Names.{side_vars, atom_vars}
-use Rattle.canoniser.specs.Numbering.{first_ones, order_of, Gains}
+use Rattle.slicer.specs.Names.{atom_vars, Names, NamesNothingAt}
+use Rattle.slicer.specs.Slices.{PlainSlice, IsSliceOf, IsFront, least}
+use Rattle.slicer.specs.Laws.{HasNamed, SlicesPartition}
+use Rattle.canoniser.specs.Numbering.{first_ones, atoms_of, order_of}
+use Rattle.canoniser.specs.Keys.{IsSliceIn}
+use Rattle.canoniser.proofs.GainsLemmas.{others}
+use Rattle.canoniser.proofs.SideLemmas.{Contains-head, Contains-behind, Contains-cases, distinct-tail}
 
--- ---- the first ones of more numbers
+-- ---- which numbers the first ones are
 
--- other than x
-abbrev others : ℕ → List ℕ → List ℕ
-others x xs = filter (λ w. not (w == x)) xs
+-- what stays in a list that loses x
+Contains-kept : (kept : Bool) (y : ℕ) (rest : List ℕ) (v : ℕ) → (y ≡ v → kept ≡ true) → (y ≡ v) ⊎ Contains rest v → Contains (if kept then y ∷ rest else rest) v
+Contains-kept true y rest v same has =
+    elim has [ inl first ↦ subst (Contains (y ∷ rest)) first (Contains-head y rest) | inr behind ↦ Contains-behind y rest v behind ]
+Contains-kept false y rest v same has = elim has [ inl first ↦ absurd (let e = same first in cc) | inr behind ↦ behind ]
 
-abbrev has : List ℕ → ℕ → Bool
-has xs v = list_any (λ w. w == v) xs
-
--- a list with a number behind it unless that is there
-abbrev with : List ℕ → ℕ → List ℕ
-with xs v = if has xs v then xs else xs ++ v ∷ []
-
-others-same : (x v : ℕ) → (v == x) ≡ true → (xs : List ℕ) → others x (xs ++ v ∷ []) ≡ others x xs
-others-same x v same xs =
-    filter-append (λ w. not (w == x)) xs (v ∷ []) ∙ ap (λ (ys : List ℕ). others x xs ++ ys) (alone (v == x) same) ∙ append-nil (others x xs)
+Contains-others : (x : ℕ) (xs : List ℕ) (v : ℕ) → v ≢ x → Contains xs v → Contains (others x xs) v
+Contains-others x [] v other has = absurd (omega (arith, has.1))
+Contains-others x (y ∷ ys) v other has =
+    Contains-kept (not (y == x)) y (others x ys) v (λ e. is_kept (λ same. other (sym e ∙ same))) (elim (Contains-cases y ys v has) [ inl first ↦ inl first | inr behind ↦ inr (Contains-others x ys v other behind) ])
   where
-    alone : (b : Bool) → b ≡ true → (if not b then v ∷ [] else []) ≡ []
-    alone b e = rw e refl
+    is_kept : y ≢ x → not (y == x) ≡ true
+    is_kept apart = grind (arith, nat_tests)
 
-others-new : (x v : ℕ) → (v == x) ≡ false → (xs : List ℕ) → others x (xs ++ v ∷ []) ≡ others x xs ++ v ∷ []
-others-new x v other xs =
-    filter-append (λ w. not (w == x)) xs (v ∷ []) ∙ ap (λ (ys : List ℕ). others x xs ++ ys) (alone (v == x) other)
+Contains-from_others : (x : ℕ) (xs : List ℕ) (v : ℕ) → Contains (others x xs) v → Contains xs v
+Contains-from_others x xs v has =
+    All-contains (Contains xs) (others x xs) v (All-filter (λ w. not (w == x)) (Contains xs) xs (All-contains_itself xs)) has
+
+-- the same numbers
+pub Contains-first_ones : (numbers : List ℕ) (v : ℕ) → Contains (first_ones numbers) v ↔ Contains numbers v
+Contains-first_ones [] v = (λ has. has, λ has. has)
+Contains-first_ones (x ∷ numbers) v =
+    let rest = Contains-first_ones numbers v in (
+      λ has. elim (Contains-cases x (others x (first_ones numbers)) v has) [
+        | inl first ↦ subst (Contains (x ∷ numbers)) first (Contains-head x numbers)
+        | inr behind ↦ Contains-behind x numbers v (rest.0 (Contains-from_others x (first_ones numbers) v behind))
+      ],
+      λ has. elim (Contains-cases x numbers v has) [
+        | inl first ↦ subst (Contains (x ∷ others x (first_ones numbers))) first (Contains-head x (others x (first_ones numbers)))
+        | inr behind ↦ elim (eqb_tells v x) [
+          | inl same ↦ subst (Contains (x ∷ others x (first_ones numbers))) (sym same.1) (Contains-head x (others x (first_ones numbers)))
+          | inr other ↦ Contains-behind x (others x (first_ones numbers)) v (Contains-others x (first_ones numbers) v other.1 (rest.1 behind))
+        ]
+      ],
+    )
+
+-- each once
+pub first_ones-distinct : (numbers : List ℕ) → AllPairs ◌≢◌ (first_ones numbers)
+first_ones-distinct [] = λ i j d before within. absurd (omega (arith, within))
+first_ones-distinct (x ∷ numbers) =
+    let rest = first_ones numbers in
+    AllPairs-cons ◌≢◌ x (others x rest) (All-weaker (λ w. not (w == x) ≡ true) (λ w. x ≢ w) differs (others x rest) (filter_passes (λ w. not (w == x)) rest)) (AllPairs-filter ◌≢◌ (λ w. not (w == x)) rest (first_ones-distinct numbers))
   where
-    alone : (b : Bool) → b ≡ false → (if not b then v ∷ [] else []) ≡ v ∷ []
-    alone b e = rw e refl
+    differs : (w : ℕ) → not (w == x) ≡ true → x ≢ w
+    differs w other same = grind (arith, nat_tests)
 
-has-others : (x v : ℕ) → (v == x) ≡ false → (xs : List ℕ) → has (others x xs) v ≡ has xs v
-has-others x v other xs =
-    any-filter_same (λ w. w == v) (λ w. not (w == x)) true (λ w e. ap (λ u. not (u == x)) (eqb-true w v e) ∙ ap not other) xs
+IsDistinct-from_pairs : (xs : List ℕ) → AllPairs ◌≢◌ xs → IsDistinct eqb xs
+unfolding IsDistinct
+IsDistinct-from_pairs [] distinct = tt
+IsDistinct-from_pairs (x ∷ xs) distinct =
+    (recursion_from_All (λ y. eqb x y ≡ false) xs (λ k d within. unequal x (get_or xs k d) (distinct 0 (suc k) d (omega arith) (omega arith))), IsDistinct-from_pairs xs (distinct-tail x xs distinct))
+  where
+    unequal : (a b : ℕ) → a ≢ b → eqb a b ≡ false
+    unequal a b apart = grind (arith, nat_tests)
 
-with-known : (xs : List ℕ) (v : ℕ) → has xs v ≡ true → with xs v ≡ xs
-with-known xs v e = ap (λ (b : Bool). if b then xs else xs ++ v ∷ []) e
+-- distinct numbers below n are at most n
+pub few_distinct : (xs : List ℕ) (n : ℕ) → AllPairs ◌≢◌ xs → ((v : ℕ) → Contains xs v → v < n) → length xs ≤ n
+few_distinct xs n distinct below =
+    length-le_from_distinct_below xs n (IsDistinct-from_pairs xs distinct) (λ v found. below v (Contains-from_any eqb-true v xs found))
 
-with-new : (xs : List ℕ) (v : ℕ) → has xs v ≡ false → with xs v ≡ xs ++ v ∷ []
-with-new xs v e = ap (λ (b : Bool). if b then xs else xs ++ v ∷ []) e
+-- ---- the order of a slice's variables
 
-others-with_same : (x v : ℕ) (b : Bool) (xs : List ℕ) → (v == x) ≡ true → others x (if b then xs else xs ++ v ∷ []) ≡ others x xs
-others-with_same x v true xs same = refl
-others-with_same x v false xs same = others-same x v same xs
+pub order_of-distinct : (c : PlainCondition) (s : PlainSlice) → AllPairs ◌≢◌ (order_of c s)
+order_of-distinct c s = first_ones-distinct (flat_map atom_vars (atoms_of c s) ++ s.vars)
 
-others-with_new : (x v : ℕ) (b : Bool) (xs : List ℕ) → (v == x) ≡ false → others x (if b then xs else xs ++ v ∷ []) ≡ (if b then others x xs else others x xs ++ v ∷ [])
-others-with_new x v true xs other = refl
-others-with_new x v false xs other = others-new x v other xs
+Contains-flat_map : {X A : Type 0} (f : X → List A) (xs : List X) (x : X) (a : A) → Contains xs x → Contains (f x) a → Contains (flat_map f xs) a
+Contains-flat_map f [] x a in_xs in_f = absurd (omega (arith, in_xs.1))
+Contains-flat_map {X} {A} f (y ∷ ys) x a in_xs in_f =
+    elim (Contains-cases y ys x in_xs) [
+      | inl same ↦ Contains-append_left (f y) (flat_map f ys) a (subst (λ (z : X). Contains (f z) a) (sym same) in_f)
+      | inr behind ↦ Contains-append_right (f y) (flat_map f ys) a (Contains-flat_map f ys x a behind in_f)
+    ]
 
-turned_test : (x v : ℕ) (b : Bool) → (v == x) ≡ b → (x == v) ≡ b
-turned_test x v true e = eq-eqb x v (sym (eqb-true v x e))
-turned_test x v false e = grind (arith, nat_tests)
+-- some element's piece has it
+record Source {X A : Type 0} (f : X → List A) (xs : List X) (a : A) : Type 0 where
+  pub element : X
+  pub among : Contains xs element
+  pub piece : Contains (f element) a
 
--- a first number x before a list of others
-with-behind : (x : ℕ) (xs : List ℕ) (v : ℕ) (b : Bool) → (if b then x ∷ xs else (x ∷ xs) ++ v ∷ []) ≡ x ∷ (if b then xs else xs ++ v ∷ [])
-with-behind x xs v true = refl
-with-behind x xs v false = refl
+Source-flat_map : {X A : Type 0} (f : X → List A) (xs : List X) (a : A) → Contains (flat_map f xs) a → Source f xs a
+Source-flat_map f [] a has = absurd (omega (arith, has.1))
+Source-flat_map f (y ∷ ys) a has =
+    elim (Contains-append_cases (f y) (flat_map f ys) a has) [
+      | inl here ↦ record { element = y; among = Contains-head y ys; piece = here }
+      | inr later ↦ let rest = Source-flat_map f ys a later in record { element = rest.element; among = Contains-behind y ys rest.element rest.among; piece = rest.piece }
+    ]
 
-with-first : (x v : ℕ) (b : Bool) (xs : List ℕ) → (v == x) ≡ b → x ∷ others x (with xs v) ≡ with (x ∷ others x xs) v
-with-first x v true xs e =
-    ap (λ (ys : List ℕ). x ∷ ys) (others-with_same x v (has xs v) xs e)
-    ∙ sym (with-known (x ∷ others x xs) v (ap (λ b. b || has (others x xs) v) (turned_test x v true e)))
-with-first x v false xs e =
-    let found : has (x ∷ others x xs) v ≡ has xs v = ap (λ b. b || has (others x xs) v) (turned_test x v false e) ∙ has-others x v e xs in
-    ap (λ (ys : List ℕ). x ∷ ys) (others-with_new x v (has xs v) xs e)
-    ∙ sym (ap (λ (b : Bool). if b then x ∷ others x xs else (x ∷ others x xs) ++ v ∷ []) found ∙ with-behind x (others x xs) v (has xs v))
+-- some element gives it
+pub record Given {X Y : Type 0} (h : X → Option Y) (xs : List X) (y : Y) : Type 0 where
+  pub element : X
+  pub among : Contains xs element
+  pub gives : h element ≡ Some y
 
-first_ones-push : (numbers : List ℕ) (v : ℕ) → first_ones (numbers ++ v ∷ []) ≡ with (first_ones numbers) v
-first_ones-push [] v = refl
-first_ones-push (x ∷ numbers) v =
-    ap (λ (xs : List ℕ). x ∷ others x xs) (first_ones-push numbers v) ∙ with-first x v (v == x) (first_ones numbers) refl
+one_given : {X Y : Type 0} (h : X → Option Y) (x : X) (xs : List X) (y : Y) (o : Option Y) → h x ≡ o → (Contains (filter_map h xs) y → Given h xs y) → Contains (cons_option o (filter_map h xs)) y → Given h (x ∷ xs) y
+one_given h x xs y None is rest has =
+    let later = rest has in record { element = later.element; among = Contains-behind x xs later.element later.among; gives = later.gives }
+one_given h x xs y (Some z) is rest has =
+    elim (Contains-cases z (filter_map h xs) y has) [
+      | inl same ↦ record { element = x; among = Contains-head x xs; gives = is ∙ ap Some same }
+      | inr behind ↦ let later = rest behind in record { element = later.element; among = Contains-behind x xs later.element later.among; gives = later.gives }
+    ]
 
-pub Gains-known : (old : List ℕ) (v : ℕ) → has old v ≡ true → Gains old old (v ∷ [])
-Gains-known old v there numbers e =
-    sym (first_ones-push numbers v ∙ ap (λ (xs : List ℕ). with xs v) (sym e) ∙ with-known old v there)
+pub Given-filter_map : {X Y : Type 0} (h : X → Option Y) (xs : List X) (y : Y) → Contains (filter_map h xs) y → Given h xs y
+Given-filter_map h [] y has = absurd (omega (arith, has.1))
+Given-filter_map h (x ∷ xs) y has = one_given h x xs y (h x) refl (Given-filter_map h xs y) has
 
-pub Gains-new : (old new : List ℕ) (v : ℕ) → has old v ≡ false → new ≡ old ++ v ∷ [] → Gains old new (v ∷ [])
-Gains-new old new v missing added numbers e =
-    added ∙ sym (first_ones-push numbers v ∙ ap (λ (xs : List ℕ). with xs v) (sym e) ∙ with-new old v missing)
+-- the order has each variable that an atom of the slice names
+pub order_of-names : (c : PlainCondition) (s : PlainSlice) (atom : Atom) → Contains (atoms_of c s) atom → (v : ℕ) → Names atom v → Contains (order_of c s) v
+order_of-names c s atom among v names =
+    (Contains-first_ones (flat_map atom_vars (atoms_of c s) ++ s.vars) v).1 (Contains-append_left (flat_map atom_vars (atoms_of c s)) s.vars v (Contains-flat_map atom_vars (atoms_of c s) atom v among names))
 
--- nothing more
-pub Gains-none : (old : List ℕ) → Gains old old []
-Gains-none old numbers e = e ∙ ap first_ones (sym (append-nil numbers))
+-- the slice of a partition has what its atoms name
+pub HasNamed-slice : (c : PlainCondition) (s : PlainSlice) → SlicesPartition → Fits c.vars c.atoms → IsSliceIn c s → HasNamed c s
+HasNamed-slice c s law fits slice =
+    All-contains (HasNamed c) slice.slices s (law c slice.slices fits slice.all).named slice.one
 
--- one after another
-pub Gains-more : (old mid new before piece after : List ℕ) → after ≡ before ++ piece → Gains old mid before → Gains mid new piece → Gains old new after
-Gains-more old mid new before piece after e first second numbers is =
-    second (numbers ++ before) (first numbers is) ∙ ap first_ones (append_assoc numbers before piece ∙ ap (λ (more : List ℕ). numbers ++ more) (sym e))
+pub order_of-vars : (c : PlainCondition) (s : PlainSlice) → HasNamed c s → (v : ℕ) → Contains (order_of c s) v ↔ Contains s.vars v
+order_of-vars c s named v =
+    let all = flat_map atom_vars (atoms_of c s) in
+    let firsts = Contains-first_ones (all ++ s.vars) v in (
+      λ has. elim (Contains-append_cases all s.vars v (firsts.0 has)) [
+        | inl by_atom ↦
+            let source = Source-flat_map atom_vars (atoms_of c s) v by_atom in
+            let number = Given-filter_map (λ j. slice_get c.atoms j) s.atoms source.element source.among in
+            named number.element v number.among (subst (λ (o : Option Atom). IsSomeAnd o (λ a. Names a v)) (sym number.gives) source.piece)
+        | inr by_slice ↦ by_slice
+      ],
+      λ has. firsts.1 (Contains-append_right all s.vars v has),
+    )
 
--- what one more term, and one more atom, names
-pub side_vars_more : (terms : List PlainTerm) (k : ℕ) (term : PlainTerm) (var : Option ℕ) → k < length terms → term ≡ get_or terms k term → var ≡ term.var → side_vars (take (k + 1) terms) ≡ side_vars (take k terms) ++ cons_option var []
-side_vars_more terms k term var within is same =
-    ap side_vars (take_more terms k term within ∙ ap (λ (t : PlainTerm). take k terms ++ t ∷ []) (sym is))
-    ∙ filter_map-append (λ (t : PlainTerm). t.var) (take k terms) (term ∷ [])
-    ∙ ap (λ (o : Option ℕ). side_vars (take k terms) ++ cons_option o []) (sym same)
+-- ---- how many they are
 
-pub named_more : (atoms : List Atom) (numbers : List ℕ) (k : ℕ) → k < length numbers → flat_map atom_vars (filter_map (λ j. slice_get atoms j) (take (k + 1) numbers)) ≡ flat_map atom_vars (filter_map (λ j. slice_get atoms j) (take k numbers)) ++ flat_map atom_vars (cons_option (slice_get atoms (get_or numbers k 0)) [])
-named_more atoms numbers k within =
-    ap (λ (xs : List ℕ). flat_map atom_vars (filter_map (λ j. slice_get atoms j) xs)) (take_more numbers k 0 within)
-    ∙ ap (flat_map atom_vars) (filter_map-append (λ j. slice_get atoms j) (take k numbers) (get_or numbers k 0 ∷ []))
-    ∙ flat_map-append atom_vars (filter_map (λ j. slice_get atoms j) (take k numbers)) (cons_option (slice_get atoms (get_or numbers k 0)) [])
+class_below : (c : PlainCondition) (s : PlainSlice) (var : ℕ) → IsSliceOf c var s → (v : ℕ) → Contains s.vars v → v < length c.vars
+class_below c s var slice v has = ((slice.vars.just v).0 has).0
 
--- the variables of an atom, by its sides
-pub atom_vars_is : (atom : Atom) (left right : List PlainTerm) → left ≡ atom.left → right ≡ atom.right → atom_vars atom ≡ side_vars left ++ side_vars right
-atom_vars_is atom left right l r = sym (ap (λ (xs : List PlainTerm). side_vars xs ++ side_vars right) l ∙ ap (λ (xs : List PlainTerm). side_vars atom.left ++ side_vars xs) r)
+front_below : (c : PlainCondition) (P : ℕ → Type 0) (front : List PlainSlice) (s : PlainSlice) → IsFront P front → Contains front s → (v : ℕ) → ¬ Contains s.vars v
+front_below c P [] s is among v has = absurd (omega (arith, among.1))
+front_below c P (t ∷ []) s is among v has =
+    elim (Contains-cases t [] s among) [
+      | inl same ↦ (let none = subst (λ (vs : List ℕ). Contains vs v) is.vars (subst (λ (x : PlainSlice). Contains x.vars v) (sym same) has) in omega (arith, none.1))
+      | inr behind ↦ absurd (omega (arith, behind.1))
+    ]
+front_below c P (t ∷ u ∷ us) s is among v has = absurd is
 
--- the atom of a number, or none
-pub Gains-none_at : (old : List ℕ) (atoms : List Atom) (j : ℕ) → length atoms ≤ j → Gains old old (flat_map atom_vars (cons_option (slice_get atoms j) []))
-Gains-none_at old atoms j past =
-    subst (λ (o : Option Atom). Gains old old (flat_map atom_vars (cons_option o []))) (sym (slice_get_past atoms j past)) (Gains-none old)
+-- a slice's variables are the condition's
+pub slice_vars-below : (c : PlainCondition) (s : PlainSlice) → IsSliceIn c s → (v : ℕ) → Contains s.vars v → v < length c.vars
+slice_vars-below c s slice v has =
+    let all = slice.all in
+    elim (Contains-append_cases all.front all.classes s (subst (λ (ss : List PlainSlice). Contains ss s) all.joined slice.one)) [
+      | inl in_front ↦ absurd (front_below c (NamesNothingAt c.atoms) all.front s all.variable_free in_front v has)
+      | inr in_classes ↦ class_below c s (least s) (All-contains (λ (x : PlainSlice). IsSliceOf c (least x) x) all.classes s all.linked.each in_classes) v has
+    ]
 
-pub one_named : (atoms : List Atom) (j : ℕ) (atom : Atom) → j < length atoms → atom ≡ get_or atoms j atom → flat_map atom_vars (cons_option (slice_get atoms j) []) ≡ atom_vars atom
-one_named atoms j atom within is =
-    ap (λ (o : Option Atom). flat_map atom_vars (cons_option o [])) (slice_get_read atoms (length atoms) j atom refl within is) ∙ append-nil (atom_vars atom)
+pub order_of-below : (c : PlainCondition) (s : PlainSlice) → HasNamed c s → IsSliceIn c s → (v : ℕ) → Contains (order_of c s) v → v < length c.vars
+order_of-below c s named slice v has = slice_vars-below c s slice v ((order_of-vars c s named v).0 has)
 
--- what begins with nothing and takes in the variables of the atoms and those of the slice
-pub order_of_made : (c : PlainCondition) (s : PlainSlice) (old mid new : List ℕ) (atoms : List Atom) (numbers vars : List ℕ) → old ≡ [] → atoms ≡ c.atoms → numbers ≡ s.atoms → vars ≡ s.vars → Gains old mid (flat_map atom_vars (filter_map (λ j. slice_get atoms j) numbers)) → Gains mid new vars → new ≡ order_of c s
-order_of_made c s old mid new atoms numbers vars none a n v first second =
-    let named : List Atom → List ℕ → List ℕ = λ xs js. flat_map atom_vars (filter_map (λ j. slice_get xs j) js) in
-    second (named atoms numbers) (first [] none)
-    ∙ ap (λ (xs : List Atom). first_ones (named xs numbers ++ vars)) a
-    ∙ ap (λ (js : List ℕ). first_ones (named c.atoms js ++ vars)) n
-    ∙ ap (λ (vs : List ℕ). first_ones (named c.atoms s.atoms ++ vs)) v
+pub order_of-few : (c : PlainCondition) (s : PlainSlice) → Fits c.vars c.atoms → HasNamed c s → IsSliceIn c s → length (order_of c s) ≤ 64
+order_of-few c s fits named slice =
+    omega (arith, few_distinct (order_of c s) (length c.vars) (order_of-distinct c s) (order_of-below c s named slice), fits.few_vars)

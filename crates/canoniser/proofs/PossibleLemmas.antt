@@ -1,8 +1,8 @@
 -- An atom that comes to a canonical one, or to nothing, is satisfied by some integers: its form takes every multiple of the greatest common divisor of its coefficients.
-use Rattle.std.proofs.Common.{◌≡◌, ◌≢◌, ℕ, zero, suc, ◌+◌, ◌*◌, ◌/◌, ◌%◌, ◌<◌, ◌≤◌, max, Bool, true, false, List, [], ◌∷◌, length, get_or, map, ℤ, pos, negsuc, ◌+ℤ◌, ◌-ℤ◌, ◌*ℤ◌, neg_ℤ, unsigned_abs, inl, inr, refl, arith, ap, sym, subst, ◌∙◌}
+use Rattle.std.proofs.Common.{◌≡◌, ◌≢◌, ℕ, zero, suc, ◌+◌, ◌*◌, ◌/◌, ◌%◌, ◌<◌, ◌≤◌, max, Bool, true, false, List, [], ◌∷◌, get_or, map, ℤ, pos, negsuc, ◌+ℤ◌, ◌-ℤ◌, ◌*ℤ◌, neg_ℤ, unsigned_abs, inl, inr, refl, arith, ap, sym, subst, ◌∙◌}
 use Rattle.std.specs.Prelude.{Contains, AllPairs, if◌then◌else◌, ◌==◌}
 use Rattle.std.specs.Int.{◌∣◌}
-use Rattle.std.specs.List.{All, range_with_len}
+use Rattle.std.specs.List.{range_with_len}
 use Rattle.std.specs.Ordering.{int_eq}
 use Rattle.std.proofs.Math.Nat.{dvd-mod_iff, mod-lt, div-add-mod, mul-div_cancel'}
 use Rattle.std.proofs.Math.IntN.{*ℤ_comm, pos-*ℤ-pos, *ℤ-one, *ℤ-zero}
@@ -12,7 +12,6 @@ use Rattle.std.proofs.lemmas.Bool.Decides.{nat_tests}
 use Rattle.std.proofs.lemmas.List.FromFn.{get_or-map-range_with_len}
 use Rattle.std.proofs.lemmas.List.Elements.{All-nil, All-map}
 use Rattle.lin_model.specs.Terms.{value_at}
-use Rattle.lin_model.specs.Truth.{AtomHolds}
 use Rattle.lin_model.specs.Form.{form_value, IsGcdOf, DividesAll}
 use Rattle.lin_model.specs.KeyAtom.{PlainKeyAtom}
 use Rattle.lin_model.specs.declared.atom.Atom.{Atom}
@@ -21,13 +20,13 @@ use Rattle.lin_model.specs.declared.op.Op.{Op}
 use Rattle.lin_model.specs.declared.op.Op.TheVariants.{Le, Ge, Eq, Ne}
 use Rattle.slicer.specs.Names.{Names}
 use Rattle.canoniser.specs.Gathered.{coefficient}
-use Rattle.canoniser.specs.Forms.{Outcome, always, says, terms_from, gathered, oriented, turned, begins_negative, divided, ComesTo}
+use Rattle.canoniser.specs.Forms.{always, says, terms_from, gathered, oriented, turned, begins_negative, divided, ComesTo}
 use Rattle.canoniser.specs.Solutions.{point_of, IsNever}
 use Rattle.canoniser.proofs.Arithmetic.{times_assoc, distrib_left, distrib_right, neg_left, neg_right}
 use Rattle.canoniser.proofs.LimitsLemmas.{All-chosen, gcd-positive, nonzero-oriented}
 use Rattle.canoniser.proofs.CanonicalLemmas.{IsDivided-says}
 use Rattle.canoniser.proofs.SideLemmas.{weighted, distinct-head, distinct-tail, Contains-head, Contains-behind, Contains-cases, form_value-gathered}
-use Rattle.canoniser.proofs.MeaningLemmas.{Passes, Means, HoldsAt, turned-value, oriented-holds, oriented-means, always-holds, divided-value, times_same}
+use Rattle.canoniser.proofs.MeaningLemmas.{Passes, HoldsAt, turned-value, oriented-holds, oriented-means, always-holds, divided-value, times_same}
 
 -- ---- two numbers
 

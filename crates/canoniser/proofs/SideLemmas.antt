@@ -1,5 +1,5 @@
 -- What a side is worth, by the factors of the variables of a list.
-use Rattle.std.proofs.Common.{◌≡◌, ◌≢◌, ℕ, zero, suc, ◌+◌, ◌<◌, Bool, true, false, eqb, List, [], ◌∷◌, length, get_or, map, ℤ, pos, ◌+ℤ◌, ◌-ℤ◌, ◌*ℤ◌, neg_ℤ, ◌⊎◌, inl, inr, refl, arith, ap, sym, subst, ◌∙◌}
+use Rattle.std.proofs.Common.{◌≡◌, ◌≢◌, ℕ, zero, suc, ◌+◌, ◌<◌, Bool, true, false, List, [], ◌∷◌, length, get_or, ℤ, pos, ◌+ℤ◌, ◌-ℤ◌, ◌*ℤ◌, neg_ℤ, ◌⊎◌, inl, inr, refl, arith, ap, sym, subst, ◌∙◌}
 use Rattle.std.specs.Prelude.{Option, Some, None, IfSome, Contains, AllPairs, is_some, if◌then◌else◌, ◌==◌}
 use Rattle.std.specs.List.{cons_option}
 use Rattle.std.specs.Ordering.{int_eq}
@@ -26,15 +26,15 @@ distinct-head v vs pairs has = pairs 0 (suc has.0) v (omega arith) (omega (arith
 pub distinct-tail : (v : ℕ) (vs : List ℕ) → AllPairs ◌≢◌ (v ∷ vs) → AllPairs ◌≢◌ vs
 distinct-tail v vs pairs i j d before within = pairs (suc i) (suc j) d (omega arith) (omega arith)
 
-pub Contains-head : (v : ℕ) (vs : List ℕ) → Contains (v ∷ vs) v
-Contains-head v vs = (0, omega arith, refl)
+pub Contains-head : {X : Type 0} (x : X) (xs : List X) → Contains (x ∷ xs) x
+Contains-head x xs = (0, omega arith, refl)
 
-pub Contains-behind : (v : ℕ) (vs : List ℕ) (w : ℕ) → Contains vs w → Contains (v ∷ vs) w
-Contains-behind v vs w has = (suc has.0, omega (arith, has.1), has.2)
+pub Contains-behind : {X : Type 0} (x : X) (xs : List X) (y : X) → Contains xs y → Contains (x ∷ xs) y
+Contains-behind x xs y has = (suc has.0, omega (arith, has.1), has.2)
 
-pub Contains-cases : (v : ℕ) (vs : List ℕ) (w : ℕ) → Contains (v ∷ vs) w → (v ≡ w) ⊎ Contains vs w
-Contains-cases v vs w (zero, within, is) = inl is
-Contains-cases v vs w (suc k, within, is) = inr (k, omega arith, is)
+pub Contains-cases : {X : Type 0} (x : X) (xs : List X) (y : X) → Contains (x ∷ xs) y → (x ≡ y) ⊎ Contains xs y
+Contains-cases x xs y (zero, within, is) = inl is
+Contains-cases x xs y (suc k, within, is) = inr (k, omega arith, is)
 
 -- ---- the sum over the variables of a list, each its factor times its value
 

@@ -1,6 +1,6 @@
 use Rattle.std.proofs.Common.{ℕ, List, eqb, ap, sym, ◌∙◌}
 use Rattle.std.specs.List.{list_any}
-use Rattle.canoniser.proofs.NumberingLemmas.{Gains-known, Gains-new}
+use Rattle.canoniser.proofs.GainsLemmas.{Gains-known, Gains-new}
 use Rattle.canoniser.proofs.numbering.add.Goals as goal
 
 pub returns-then-contains : goal.returns-then-contains

@@ -1,6 +1,6 @@
 use Rattle.std.proofs.Common.{[], ◌∷◌, take, get_or, ◌+◌}
 use Rattle.std.proofs.lemmas.List.{take_more}
-use Rattle.canoniser.proofs.NumberingLemmas.{Gains-more}
+use Rattle.canoniser.proofs.GainsLemmas.{Gains-more}
 use Rattle.canoniser.proofs.numbering.add_all.Goals as goal
 
 pub loop-var-preserved : goal.loop-var-preserved

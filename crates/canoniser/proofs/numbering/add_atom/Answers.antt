@@ -1,5 +1,5 @@
 use Rattle.slicer.specs.Names.{side_vars, atom_vars}
-use Rattle.canoniser.proofs.NumberingLemmas.{Gains-more, atom_vars_is}
+use Rattle.canoniser.proofs.GainsLemmas.{Gains-more, atom_vars_is}
 use Rattle.canoniser.proofs.numbering.add_atom.Goals as goal
 
 pub returns : goal.returns

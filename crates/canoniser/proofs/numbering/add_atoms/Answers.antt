@@ -1,7 +1,7 @@
 use Rattle.std.proofs.Common.{[], take, get_or, ◌+◌}
 use Rattle.std.specs.List.{cons_option, filter_map, flat_map, slice_get}
 use Rattle.slicer.specs.Names.{atom_vars}
-use Rattle.canoniser.proofs.NumberingLemmas.{Gains-more, named_more}
+use Rattle.canoniser.proofs.GainsLemmas.{Gains-more, named_more}
 use Rattle.canoniser.proofs.numbering.add_atoms.Goals as goal
 
 pub loop-j-preserved : goal.loop-j-preserved

@@ -1,7 +1,7 @@
 use Rattle.std.proofs.Common.{List, ℕ, sym, subst}
 use Rattle.std.specs.Prelude.{OnOk}
 use Rattle.canoniser.specs.Numbering.{Gains}
-use Rattle.canoniser.proofs.NumberingLemmas.{Gains-none_at, one_named}
+use Rattle.canoniser.proofs.GainsLemmas.{Gains-none_at, one_named}
 use Rattle.canoniser.proofs.numbering.add_numbered.Goals as goal
 
 pub returns-in-None : goal.returns-in-None

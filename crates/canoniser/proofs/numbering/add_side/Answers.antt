@@ -1,7 +1,7 @@
 use Rattle.std.proofs.Common.{[], take, ◌+◌}
 use Rattle.std.specs.List.{cons_option}
 use Rattle.slicer.specs.Names.{side_vars}
-use Rattle.canoniser.proofs.NumberingLemmas.{Gains-more, side_vars_more}
+use Rattle.canoniser.proofs.GainsLemmas.{Gains-more, side_vars_more}
 use Rattle.canoniser.proofs.numbering.add_side.Goals as goal
 
 pub loop-term-preserved : goal.loop-term-preserved

@@ -1,4 +1,4 @@
-use Rattle.canoniser.proofs.NumberingLemmas.{order_of_made}
+use Rattle.canoniser.proofs.GainsLemmas.{order_of_made}
 use Rattle.canoniser.proofs.numbering.order_of.Goals as goal
 
 pub returns : goal.returns
