@@ -17,10 +17,10 @@ use Rattle.canoniser.specs.Strongest.{IsKeyWithBounds, IsOneOf}
 use Rattle.canoniser.specs.Solutions.{point_of, SliceHolds, HaveSameSolutions, IsCanonised}
 use Rattle.canoniser.specs.Said.{AreSaid, ArePossible}
 use Rattle.canoniser.proofs.KeyLemmas.{bound_holds, covered_holds, KeepsBounds-covered, key_width-order, IsBounded-covered}
-use Rattle.canoniser.proofs.SliceLemmas.{NamesOnly}
+use Rattle.canoniser.proofs.SliceLemmas.{HasNamed-slice}
 use Rattle.canoniser.proofs.MeaningLemmas.{says-holds, always-holds}
 use Rattle.canoniser.proofs.CanonicalLemmas.{one-outcome, says-narrow}
-use Rattle.canoniser.proofs.Assumed.{order_of-distinct, order_of-vars, order_of-names}
+use Rattle.canoniser.proofs.NumberingLemmas.{order_of-distinct, order_of-vars, order_of-names}
 
 -- an atom that comes to one thing comes to no other
 same_saying : (order : List ℕ) (atom : Atom) (a b : PlainKeyAtom) → ComesTo order atom (says a) → ComesTo order atom (says b) → a ≡ b
@@ -67,7 +67,7 @@ IsKeyOf-made c s canonical key said is = record {
 -- what an atom says holds at the point of the values exactly where the atom does
 says_at : (c : PlainCondition) (s : PlainSlice) (a : PlainKeyAtom) (values : List ℤ) (any : Any (λ atom. ComesTo (order_of c s) atom (says a)) (atoms_of c s)) → AtomHolds any.1 values ↔ KeyAtomHolds a (point_of (order_of c s) values)
 says_at c s a values any =
-    says-holds (order_of c s) any.1 a (order_of-distinct c s) (All-contains (NamesOnly (order_of c s)) (atoms_of c s) any.1 (order_of-names c s) (any.0, any.2, any.3)) any.4 values
+    says-holds (order_of c s) any.1 a (order_of-distinct c s) (order_of-names c s any.1 (any.0, any.2, any.3)) any.4 values
 
 HaveSameSolutions-made : (c : PlainCondition) (s : PlainSlice) (canonical key : List PlainKeyAtom) → AreSaid (order_of c s) (atoms_of c s) canonical → IsKeyWithBounds c (order_of c s) canonical key → HaveSameSolutions c s (order_of c s) key
 HaveSameSolutions-made c s canonical key said is values assignment =
@@ -85,7 +85,7 @@ HaveSameSolutions-made c s canonical key said is values assignment =
       λ holds k d lt.
           let atom = get_or (atoms_of c s) k d in
           let has = Contains-get_or (atoms_of c s) k d lt in
-          let names = order_of-names c s k d lt in
+          let names = order_of-names c s atom has in
           elim (said.each k d lt) [
             | inl true_always ↦ always-holds order atom (order_of-distinct c s) names true_always values
             | inr any ↦ (
@@ -102,14 +102,14 @@ canonical_narrow order atoms canonical said k d lt =
     let any = said.only k d lt in
     says-narrow order any.1 (get_or canonical k d) any.4
 
-IsCanonised-of : (c : PlainCondition) (s : PlainSlice) (canonical key : List PlainKeyAtom) → IsSliceIn c s → ArePossible c s canonical → IsKeyWithBounds c (order_of c s) canonical key → IsCanonised c s (order_of c s) key
-IsCanonised-of c s canonical key one possible is =
+IsCanonised-of : (c : PlainCondition) (s : PlainSlice) (canonical key : List PlainKeyAtom) → Fits c.vars c.atoms → IsSliceIn c s → ArePossible c s canonical → IsKeyWithBounds c (order_of c s) canonical key → IsCanonised c s (order_of c s) key
+IsCanonised-of c s canonical key fits one possible is =
     let order = order_of c s in
     let width = key_width-order c order canonical key is (canonical_narrow order (atoms_of c s) canonical possible.said) in
     record {
       possible = possible.possible;
       numbered = refl;
-      vars = order_of-vars c s one;
+      vars = order_of-vars c s (HasNamed-slice c s fits one);
       is_key = IsKeyOf-made c s canonical key possible.said is;
       width = width;
       same = HaveSameSolutions-made c s canonical key possible.said is;
@@ -117,6 +117,6 @@ IsCanonised-of c s canonical key one possible is =
       bounded = IsBounded-covered c order canonical key is width;
     }
 
-pub IsCanonised-made : (c : PlainCondition) (s : PlainSlice) (order : List ℕ) (canonical key : List PlainKeyAtom) → IsSliceIn c s → order ≡ order_of c s → ArePossible c s canonical → IsKeyWithBounds c order canonical key → IsCanonised c s order key
-IsCanonised-made c s order canonical key one numbered possible is =
-    subst (λ (o : List ℕ). IsCanonised c s o key) (sym numbered) (IsCanonised-of c s canonical key one possible (subst (λ (o : List ℕ). IsKeyWithBounds c o canonical key) numbered is))
+pub IsCanonised-made : (c : PlainCondition) (s : PlainSlice) (order : List ℕ) (canonical key : List PlainKeyAtom) → Fits c.vars c.atoms → IsSliceIn c s → order ≡ order_of c s → ArePossible c s canonical → IsKeyWithBounds c order canonical key → IsCanonised c s order key
+IsCanonised-made c s order canonical key fits one numbered possible is =
+    subst (λ (o : List ℕ). IsCanonised c s o key) (sym numbered) (IsCanonised-of c s canonical key fits one possible (subst (λ (o : List ℕ). IsKeyWithBounds c o canonical key) numbered is))

@@ -12,7 +12,6 @@ mod PartLemmas
 mod ImplicationLemmas
 mod StrongestLemmas
 mod BoundLemmas
-mod Assumed
 mod Lookups
 mod SliceLemmas
 mod KeyLemmas

@@ -16,6 +16,8 @@ use Rattle.slicer.specs.Linked.{Linked, alone}
 use Rattle.slicer.specs.Slices.{PlainSlice, Lists, IsSliceOf, IsVariableFree, IsFront, AreSlices, least}
 use Rattle.canoniser.specs.Keys.{IsSliceIn}
 use Rattle.canoniser.specs.Numbering.{atoms_of}
+use Rattle.canoniser.proofs.SliceLemmas.{named_below, only}
+use Rattle.canoniser.proofs.SideLemmas.{Contains-cases}
 use Rattle.canoniser.proofs.Lookups.{Found, Found-from, IsSomeAnd-found, within_from_IsSomeAnd}
 
 -- a number is among the numbers
@@ -59,35 +61,6 @@ IsSomeAnd-weaker : {X : Type 0} (o : Option X) (P Q : X → Type 0) → ((x : X)
 IsSomeAnd-weaker None P Q weaker some = absurd some
 IsSomeAnd-weaker (Some x) P Q weaker some = weaker x some
 
--- a number of a list is the first or a later one
-first_or_later : (m : ℕ) (ms : List ℕ) (n : ℕ) → Contains (m ∷ ms) n → (m ≡ n) ⊎ Contains ms n
-first_or_later m ms n has = at has.0 has.1 has.2
-  where
-    at : (k : ℕ) → k < length (m ∷ ms) → get_or (m ∷ ms) k n ≡ n → (m ≡ n) ⊎ Contains ms n
-    at zero lt is = inl is
-    at (suc k) lt is = inr (k, omega arith, is)
-
--- a side that names only variables below n
-cons_option-cases : (o : Option ℕ) (xs : List ℕ) (v : ℕ) → Contains (cons_option o xs) v → (o ≡ Some v) ⊎ Contains xs v
-cons_option-cases None xs v has = inr has
-cons_option-cases (Some w) xs v has = elim (first_or_later w xs v has) [ inl here ↦ inl (ap Some here) | inr later ↦ inr later ]
-
-side_below : (n : ℕ) (terms : List PlainTerm) (v : ℕ) → NamesBelow n terms → Contains (side_vars terms) v → v < n
-side_below n [] v below has = absurd (omega (arith, has.1))
-side_below n (t ∷ ts) v below has = elim (cons_option-cases t.var (side_vars ts) v has) [
-  | inl here ↦ subst (λ (o : Option ℕ). IfSome o (λ w. w < n)) here (All-head (λ term. IfSome term.var (λ w. w < n)) t ts below)
-  | inr later ↦ side_below n ts v (All-tail (λ term. IfSome term.var (λ w. w < n)) t ts below) later
-]
-
-pub named_below : (c : PlainCondition) (j v : ℕ) (atom : Atom) → Fits c.vars c.atoms → slice_get c.atoms j ≡ Some atom → Names atom v → v < length c.vars
-named_below c j v atom fits is names =
-    let n = length c.vars in
-    let below : AtomNamesBelow n atom = subst (AtomNamesBelow n) (get_or_from_slice_get c.atoms j atom atom is) (fits.in_range j atom (slice_get_within c.atoms j atom is)) in
-    elim (Contains-append_cases (side_vars atom.left) (side_vars atom.right) v names) [
-      | inl left ↦ side_below n atom.left v below.left left
-      | inr right ↦ side_below n atom.right v below.right right
-    ]
-
 -- the numbers of a slice's atoms are those of the atoms that belong to its variables
 pub record Selects (c : PlainCondition) (s : PlainSlice) : Type 0 where
   pub ascending : AllPairs ◌<◌ s.atoms
@@ -123,11 +96,6 @@ Selects-free c s is = record {
     λ there. (is.atoms.just j).1 (IsSomeAnd-weaker (slice_get c.atoms j) (λ atom. belongs s.vars atom ≡ true) (λ atom. atom_vars atom ≡ []) (λ atom so. (belongs-nothing s.vars atom is.vars).0 so) there),
   );
 }
-
--- a list of one has that alone
-only : (slice s : PlainSlice) (k : ℕ) → k < length (slice ∷ []) → get_or (slice ∷ []) k s ≡ s → slice ≡ s
-only slice s zero lt is = is
-only slice s (suc k) lt is = absurd (omega arith)
 
 Selects-front : (c : PlainCondition) (front : List PlainSlice) (s : PlainSlice) → IsFront (NamesNothingAt c.atoms) front → Contains front s → Selects c s
 Selects-front c [] s is has = absurd (omega (arith, has.1))
@@ -174,7 +142,7 @@ later_above m ms n pairs has =
 first_is : (whole : List Atom) (p : Atom → Bool) (k m : ℕ) (ms : List ℕ) (y : Atom) → slice_get whole k ≡ Some y → p y ≡ true → SelectsFrom whole p k (m ∷ ms) → m ≡ k
 first_is whole p k m ms y is passes from =
     let low = ((from.just m).0 (0, omega arith, refl)).0 in
-    elim (first_or_later m ms k ((from.just k).1 (omega arith, IsSomeAnd-found (slice_get whole k) (λ x. p x ≡ true) y is passes))) [
+    elim (Contains-cases m ms k ((from.just k).1 (omega arith, IsSomeAnd-found (slice_get whole k) (λ x. p x ≡ true) y is passes))) [
       | inl same ↦ same
       | inr later ↦ (let above = later_above m ms k from.ascending later in absurd (omega arith))
     ]
@@ -189,7 +157,7 @@ SelectsFrom-rest whole p k m ms first from = record {
         (omega arith, both.1),
     λ both.
         let low = both.0 in
-        elim (first_or_later m ms n ((from.just n).1 (omega arith, both.1))) [ inl same ↦ absurd (omega arith) | inr later ↦ later ],
+        elim (Contains-cases m ms n ((from.just n).1 (omega arith, both.1))) [ inl same ↦ absurd (omega arith) | inr later ↦ later ],
   );
 }
 

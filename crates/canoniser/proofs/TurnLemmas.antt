@@ -13,11 +13,11 @@ use Rattle.canoniser.specs.Numbering.{atoms_of, order_of}
 use Rattle.canoniser.specs.Keys.{IsSliceIn}
 use Rattle.canoniser.specs.Solutions.{IsNever, IsFirstNever}
 use Rattle.canoniser.specs.Said.{AreSaid, ArePossible}
-use Rattle.canoniser.proofs.SliceLemmas.{NamesOnly, IsWithin-slice}
+use Rattle.canoniser.proofs.SliceLemmas.{NamesOnly, IsWithin-slice, HasNamed-slice}
 use Rattle.canoniser.proofs.SaidLemmas.{atoms_at, atoms_at-more, AreSaid-none, AreSaid-always, AreSaid-says, NoneNever, NoneNever-more, IsFirstNever-here, AtomNamesBelow-64}
 use Rattle.canoniser.proofs.MeaningLemmas.{never-is-never}
 use Rattle.canoniser.proofs.PossibleLemmas.{always-is-possible, says-is-possible}
-use Rattle.canoniser.proofs.Assumed.{order_of-distinct, order_of-vars, order_of-few, order_of-names}
+use Rattle.canoniser.proofs.NumberingLemmas.{order_of-distinct, order_of-below, order_of-few, order_of-names}
 
 -- the atom stands at a place of the slice, whose variables are in this order
 pub record IsTurn (c : PlainCondition) (s : PlainSlice) (order : List ℕ) (i : ℕ) (atom : Atom) : Type 0 where
@@ -36,12 +36,13 @@ pub record IsOrder (c : PlainCondition) (order : List ℕ) : Type 0 where
 
 pub IsOrder-slice : (c : PlainCondition) (s : PlainSlice) (order : List ℕ) → Fits c.vars c.atoms → IsSliceIn c s → order ≡ order_of c s → IsOrder c order
 IsOrder-slice c s order fits one numbered =
-    let of_slice : All (λ v. v < length c.vars) (order_of c s) = λ k d lt. (IsWithin-slice c s one).vars (get_or (order_of c s) k d) ((order_of-vars c s one (get_or (order_of c s) k d)).0 (Contains-get_or (order_of c s) k d lt)) in
+    let named = HasNamed-slice c s fits one in
+    let of_slice : All (λ v. v < length c.vars) (order_of c s) = λ k d lt. order_of-below c s named one (get_or (order_of c s) k d) (Contains-get_or (order_of c s) k d lt) in
     let declared : All (λ v. v < length c.vars) order = subst (λ (o : List ℕ). All (λ v. v < length c.vars) o) (sym numbered) of_slice in
     let few_vars = fits.few_vars in
     record {
       distinct = subst (λ (o : List ℕ). AllPairs ◌≢◌ o) (sym numbered) (order_of-distinct c s);
-      few = subst (λ (o : List ℕ). length o ≤ 64) (sym numbered) (order_of-few c s fits one);
+      few = subst (λ (o : List ℕ). length o ≤ 64) (sym numbered) (order_of-few c s fits named one);
       declared = declared;
       in_range = λ k d lt. let below = declared k d lt in omega arith;
     }
@@ -60,7 +61,7 @@ Contains-filter_map h (z ∷ zs) (suc k) x lt is = Contains-cons_option (h z) (f
 NamesOnly-turn : (c : PlainCondition) (s : PlainSlice) (order : List ℕ) (i : ℕ) (atom : Atom) → IsTurn c s order i atom → NamesOnly order atom
 NamesOnly-turn c s order i atom turn =
     subst (λ (o : List ℕ). NamesOnly o atom) (sym turn.numbered)
-    (All-contains (NamesOnly (order_of c s)) (atoms_of c s) atom (order_of-names c s) (Contains-filter_map (λ (j : ℕ). slice_get c.atoms j) s.atoms i atom turn.place turn.read))
+    (order_of-names c s atom (Contains-filter_map (λ (j : ℕ). slice_get c.atoms j) s.atoms i atom turn.place turn.read))
 
 pub AtomNamesBelow-turn : (c : PlainCondition) (s : PlainSlice) (order : List ℕ) (i : ℕ) (atom : Atom) → IsTurn c s order i atom → AtomNamesBelow 64 atom
 AtomNamesBelow-turn c s order i atom turn = AtomNamesBelow-64 c (get_or s.atoms i 0) atom turn.fits turn.read

@@ -9,4 +9,3 @@ pub mod Strongest
 pub mod Solutions
 pub mod Said
 pub mod Answers
-pub mod Laws

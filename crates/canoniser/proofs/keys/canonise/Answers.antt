@@ -1,9 +1,4 @@
-use Rattle.std.proofs.Common.{◌≡◌, ◌∙◌, ◌≤◌, List, ℕ, length, ap, sym, subst, arith}
-use Rattle.std.specs.List.{All, AllPairs}
-use Rattle.lin_model.specs.Conditions.{PlainCondition, Fits}
-use Rattle.lin_model.specs.KeyAtom.{PlainKeyAtom}
-use Rattle.slicer.specs.Slices.{PlainSlice}
-use Rattle.canoniser.specs.Keys.{IsSliceIn}
+use Rattle.std.proofs.Common.{arith}
 use Rattle.canoniser.specs.Said.{ArePossible}
 use Rattle.canoniser.specs.Strongest.{IsKeyWithBounds}
 use Rattle.canoniser.proofs.SliceLemmas.{few_atoms}
@@ -30,4 +25,4 @@ returns-in_ok-key-in-Possible c =
     let order = c.in_ok-order.order.items in
     let key = c.in_ok-key-in-Possible.key in
     let is : IsKeyWithBounds c.args.c.now order c.in-Possible.atoms.items key = rw c.deref-in-Possible.ensures.value at c.in_ok-key-in-Possible.ensures in
-    rw c.new-back.ensures (IsCanonised-made c.args.c.now c.args.s.now order c.in-Possible.atoms.items key c.requires c.in_ok-order.ensures possible is)
+    rw c.new-back.ensures (IsCanonised-made c.args.c.now c.args.s.now order c.in-Possible.atoms.items key c.in_ok-j.ensures.fits c.requires c.in_ok-order.ensures possible is)
