@@ -1,20 +1,18 @@
 -- What the key of a slice promises.
-use Rattle.std.proofs.Common.{◌≡◌, ◌↔◌, ◌⊎◌, ℕ, ◌<◌, ◌≤◌, ℤ, List, length, get_or, refl, sym, ap, ◌∙◌, subst, inl, inr, arith}
-use Rattle.std.specs.List.{All, Any, AllPairs, Contains}
+use Rattle.std.proofs.Common.{◌≡◌, ◌↔◌, ◌⊎◌, ℕ, ◌≤◌, ℤ, List, length, get_or, refl, sym, subst, inl, inr}
+use Rattle.std.specs.List.{All, Any, Contains}
 use Rattle.std.proofs.lemmas.List.Elements.{All-contains, Contains-get_or}
 use Rattle.lin_model.specs.Conditions.{PlainCondition, Fits}
 use Rattle.lin_model.specs.declared.atom.Atom.{Atom}
-use Rattle.lin_model.specs.Truth.{AtomHolds, IsAssignment}
+use Rattle.lin_model.specs.Truth.{AtomHolds}
 use Rattle.lin_model.specs.Form.{form_width}
 use Rattle.lin_model.specs.KeyAtom.{PlainKeyAtom, KeyAtomHolds}
-use Rattle.lin_model.specs.Key.{KeyHolds}
-use Rattle.atom_implies.specs.Implies.{Implies}
 use Rattle.slicer.specs.Slices.{PlainSlice}
-use Rattle.canoniser.specs.Forms.{Outcome, always, never, says, ComesTo}
+use Rattle.canoniser.specs.Forms.{always, never, says, ComesTo}
 use Rattle.canoniser.specs.Numbering.{atoms_of, order_of}
-use Rattle.canoniser.specs.Keys.{IsSliceIn, IsBound, IsGiven, IsStrongest, IsKeyOf}
+use Rattle.canoniser.specs.Keys.{IsSliceIn, IsGiven, IsStrongest, IsKeyOf}
 use Rattle.canoniser.specs.Strongest.{IsKeyWithBounds, IsOneOf}
-use Rattle.canoniser.specs.Solutions.{point_of, SliceHolds, HaveSameSolutions, IsCanonised}
+use Rattle.canoniser.specs.Solutions.{point_of, HaveSameSolutions, IsCanonised}
 use Rattle.canoniser.specs.Said.{AreSaid, ArePossible}
 use Rattle.canoniser.proofs.KeyLemmas.{bound_holds, covered_holds, KeepsBounds-covered, key_width-order, IsBounded-covered}
 use Rattle.canoniser.proofs.SliceLemmas.{HasNamed-slice}
@@ -45,7 +43,7 @@ said_from order atoms canonical said a = (
 )
 
 -- the strongest of the same atoms are the same
-IsStrongest-same : (One Other : PlainKeyAtom → Type 0) → ((a : PlainKeyAtom) → One a → Other a) → ((a : PlainKeyAtom) → Other a → One a) → (a : PlainKeyAtom) → IsStrongest One a → IsStrongest Other a
+pub IsStrongest-same : (One Other : PlainKeyAtom → Type 0) → ((a : PlainKeyAtom) → One a → Other a) → ((a : PlainKeyAtom) → Other a → One a) → (a : PlainKeyAtom) → IsStrongest One a → IsStrongest Other a
 IsStrongest-same One Other to from a is = record { one = to a is.one; alone = λ b other implied. is.alone b (from b other) implied }
 
 IsGiven-one_of : (c : PlainCondition) (s : PlainSlice) (canonical : List PlainKeyAtom) → AreSaid (order_of c s) (atoms_of c s) canonical → (a : PlainKeyAtom) → IsOneOf c (order_of c s) canonical a → IsGiven c s a

@@ -1,14 +1,12 @@
 -- Where the key of canonical atoms and bounds holds, how wide it is, and what bounds it.
-use Rattle.std.proofs.Common.{◌≡◌, ◌↔◌, ◌⊎◌, ℕ, zero, suc, ◌+◌, ◌-◌, ◌^◌, ◌<◌, ◌≤◌, ℤ, pos, List, [], ◌∷◌, ◌++◌, length, map, max, get_or, Option, Some, None, Result, Ok, Err, Bool, true, refl, sym, ap, ◌∙◌, subst, inl, inr, arith}
-use Rattle.std.specs.Prelude.{slice_index, neg_ℤ, ◌≤ℤ◌, ◌+ℤ◌, ◌*ℤ◌, int_le, IsTrue}
-use Rattle.std.specs.List.{All, Any, Contains, slice_get}
-use Rattle.std.specs.Option.{IsSomeAnd}
+use Rattle.std.proofs.Common.{◌≡◌, ◌↔◌, ◌⊎◌, ℕ, suc, ◌<◌, ◌≤◌, ℤ, pos, List, [], ◌∷◌, ◌++◌, length, max, get_or, Result, Ok, Err, true, refl, sym, ap, ◌∙◌, subst, inl, inr, arith}
+use Rattle.std.specs.Prelude.{slice_index, ◌≤ℤ◌}
+use Rattle.std.specs.List.{All, Contains, slice_get}
 use Rattle.std.specs.Result.{IfOk}
 use Rattle.std.proofs.lemmas.Int.{ints}
 use Rattle.std.proofs.lemmas.List.{get_or-map}
 use Rattle.std.proofs.lemmas.List.Elements.{All-contains, All-tail, All-head, Contains-get_or, Contains-append_cases, Contains-append_left, Contains-append_right}
 use Rattle.std.proofs.lemmas.Option.{slice_get_within, get_or_from_slice_get}
-use Rattle.lin_model.specs.declared.form.FormTerm.{FormTerm}
 use Rattle.lin_model.specs.declared.op.Op.{Op}
 use Rattle.lin_model.specs.declared.op.Op.TheVariants.{Le, Ge, Eq, Ne}
 use Rattle.lin_model.specs.Terms.{PlainVar, VarFits}
@@ -22,7 +20,7 @@ use Rattle.lin_model.proofs.KeyLemmas.{key_width-above}
 use Rattle.atom_implies.specs.Implies.{Implies, Covers}
 use Rattle.atom_implies.specs.Table.{table_says}
 use Rattle.atom_implies.proofs.TableLemmas.{table_is_right, HoldsWherever-implied}
-use Rattle.canoniser.specs.Keys.{upper_atom, lower_atom, BoundsAt, IsBound, IsStrongest}
+use Rattle.canoniser.specs.Keys.{upper_atom, lower_atom, IsBound, IsStrongest}
 use Rattle.canoniser.specs.Strongest.{IsKeyWithBounds, IsOneOf, VarsFit}
 use Rattle.canoniser.specs.Solutions.{point_of, KeepsBounds}
 use Rattle.canoniser.proofs.Lookups.{Found, Found-from, IsSomeAnd-found}

@@ -19,3 +19,5 @@ mod SaidLemmas
 mod TurnLemmas
 mod CanonisedLemmas
 mod SelectLemmas
+mod SameKeyLemmas
+mod RepeatLemmas

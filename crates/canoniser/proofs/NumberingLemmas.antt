@@ -9,8 +9,8 @@ use Rattle.std.proofs.lemmas.Map.Steps.{length-le_from_distinct_below}
 use Rattle.std.proofs.lemmas.Map.Views.{Contains-from_any}
 use Rattle.lin_model.specs.Conditions.{PlainCondition, Fits}
 use Rattle.lin_model.specs.declared.atom.Atom.{Atom}
-use Rattle.slicer.specs.Names.{atom_vars, Names, NamesNothingAt}
-use Rattle.slicer.specs.Slices.{PlainSlice, IsSliceOf, IsFront, least}
+use Rattle.slicer.specs.Names.{atom_vars, Names}
+use Rattle.slicer.specs.Slices.{PlainSlice}
 use Rattle.slicer.specs.Laws.{HasNamed}
 use Rattle.canoniser.specs.Numbering.{first_ones, atoms_of, order_of}
 use Rattle.canoniser.specs.Keys.{IsSliceIn}

@@ -1,23 +1,21 @@
 -- What the atoms of a slice say, one after another.
-use Rattle.std.proofs.Common.{◌≡◌, ◌≢◌, ◌⊎◌, ℕ, ◌+◌, ◌<◌, ◌≤◌, ℤ, List, [], ◌∷◌, ◌++◌, length, take, get_or, Option, Some, None, refl, sym, ap, ◌∙◌, subst, inl, inr, arith}
-use Rattle.std.specs.List.{All, Any, AllPairs, Contains, slice_get, filter_map, cons_option}
+use Rattle.std.proofs.Common.{◌≡◌, ◌⊎◌, ℕ, ◌+◌, ◌<◌, ◌≤◌, List, [], ◌∷◌, ◌++◌, length, take, get_or, Option, Some, None, sym, ap, ◌∙◌, subst, inl, inr, arith}
+use Rattle.std.specs.List.{Any, AllPairs, Contains, slice_get, filter_map, cons_option}
 use Rattle.std.specs.Option.{IsSomeAnd, IfSome}
 use Rattle.std.proofs.lemmas.List.{take_more, length-take, get_or-take, get_or_default}
-use Rattle.std.proofs.lemmas.List.Elements.{Contains-get_or, All-push, All-weaker, All-nil, Contains-push, Contains-append_left, Contains-push_cases, filter_map-append}
+use Rattle.std.proofs.lemmas.List.Elements.{Contains-get_or, All-push, All-weaker, Contains-append_left, Contains-push_cases, filter_map-append}
 use Rattle.std.proofs.lemmas.List.Quantifiers.{Any-push}
 use Rattle.std.proofs.lemmas.Bool.{cases_lt}
 use Rattle.std.proofs.lemmas.Bool.Decides.{eqb_tells}
 use Rattle.std.proofs.lemmas.Option.{slice_get_within, get_or_from_slice_get}
-use Rattle.lin_model.specs.Conditions.{PlainCondition, AtomNamesBelow, NamesBelow, Fits}
+use Rattle.lin_model.specs.Conditions.{PlainCondition, AtomNamesBelow, Fits}
 use Rattle.lin_model.specs.declared.atom.Atom.{Atom}
 use Rattle.lin_model.specs.KeyAtom.{PlainKeyAtom}
 use Rattle.slicer.specs.Slices.{PlainSlice}
-use Rattle.canoniser.specs.Forms.{always, says, never, ComesTo}
-use Rattle.canoniser.specs.Numbering.{atoms_of, order_of}
-use Rattle.canoniser.specs.Keys.{IsSliceIn}
+use Rattle.canoniser.specs.Forms.{always, says, ComesTo}
 use Rattle.canoniser.specs.Solutions.{IsNever, IsNeverAt, IsFirstNever}
-use Rattle.canoniser.specs.Said.{AreSaid, ArePossible}
-use Rattle.canoniser.proofs.Lookups.{Found, Found-from, IsSomeAnd-found}
+use Rattle.canoniser.specs.Said.{AreSaid}
+use Rattle.canoniser.proofs.Lookups.{IsSomeAnd-found}
 
 -- the atoms of these numbers
 abbrev pub atoms_at : PlainCondition → List ℕ → List Atom

@@ -1,24 +1,23 @@
 -- The atoms of a slice are those of the condition that belong to its variables.
-use Rattle.std.proofs.Common.{◌≡◌, ◌≢◌, ◌↔◌, ◌⊎◌, ℕ, zero, suc, ◌+◌, ◌<◌, ◌≤◌, List, [], ◌∷◌, ◌++◌, length, drop, get_or, Option, Some, None, Bool, true, false, if◌then◌else◌, refl, sym, ap, ◌∙◌, subst, inl, inr, arith}
+use Rattle.std.proofs.Common.{◌≡◌, ◌↔◌, ◌⊎◌, ℕ, suc, ◌+◌, ◌<◌, ◌≤◌, List, [], ◌∷◌, ◌++◌, length, drop, get_or, Option, Some, None, Bool, true, false, if◌then◌else◌, refl, sym, ap, ◌∙◌, subst, inl, inr, arith}
 use Rattle.std.specs.Prelude.{◌==◌}
-use Rattle.std.specs.List.{All, Any, AllPairs, Contains, slice_get, filter, filter_map, cons_option, list_any}
-use Rattle.std.specs.Option.{IsSomeAnd, IfSome}
+use Rattle.std.specs.List.{AllPairs, Contains, slice_get, filter, filter_map, cons_option, list_any}
+use Rattle.std.specs.Option.{IsSomeAnd}
 use Rattle.std.proofs.lemmas.List.{drop_more, length-drop}
 use Rattle.std.proofs.lemmas.List.Folds.{Any-from_list_any, list_any-from_Any}
-use Rattle.std.proofs.lemmas.List.Elements.{Contains-append_cases, Contains-get_or, All-contains, All-head, All-tail}
+use Rattle.std.proofs.lemmas.List.Elements.{Contains-append_cases, All-contains}
 use Rattle.std.proofs.lemmas.Bool.Decides.{eqb_tells, Decides-eqb}
-use Rattle.std.proofs.lemmas.Option.{slice_get_past, slice_get_read, slice_get_within, get_or_from_slice_get}
-use Rattle.lin_model.specs.Terms.{PlainTerm}
-use Rattle.lin_model.specs.Conditions.{PlainCondition, Fits, NamesBelow, AtomNamesBelow}
+use Rattle.std.proofs.lemmas.Option.{slice_get_read}
+use Rattle.lin_model.specs.Conditions.{PlainCondition}
 use Rattle.lin_model.specs.declared.atom.Atom.{Atom}
-use Rattle.slicer.specs.Names.{Names, NamesAt, NamesNothingAt, atom_vars, side_vars}
-use Rattle.slicer.specs.Linked.{Linked, alone}
-use Rattle.slicer.specs.Slices.{PlainSlice, Lists, IsSliceOf, IsVariableFree, IsFront, AreSlices, least}
+use Rattle.slicer.specs.Names.{Names, NamesNothingAt, atom_vars}
+use Rattle.slicer.specs.Linked.{alone}
+use Rattle.slicer.specs.Slices.{PlainSlice, IsSliceOf, IsVariableFree, IsFront, least}
 use Rattle.canoniser.specs.Keys.{IsSliceIn}
 use Rattle.canoniser.specs.Numbering.{atoms_of}
-use Rattle.canoniser.proofs.SliceLemmas.{named_below, only}
+use Rattle.canoniser.proofs.SliceLemmas.{NamesDeclared, named_below, only}
 use Rattle.canoniser.proofs.SideLemmas.{Contains-cases}
-use Rattle.canoniser.proofs.Lookups.{Found, Found-from, IsSomeAnd-found, within_from_IsSomeAnd}
+use Rattle.canoniser.proofs.Lookups.{Found-from, IsSomeAnd-found, within_from_IsSomeAnd}
 
 -- a number is among the numbers
 abbrev pub is_among : List ℕ → ℕ → Bool
@@ -66,8 +65,8 @@ pub record Selects (c : PlainCondition) (s : PlainSlice) : Type 0 where
   pub ascending : AllPairs ◌<◌ s.atoms
   pub just : (j : ℕ) → Contains s.atoms j ↔ IsSomeAnd (slice_get c.atoms j) (λ atom. belongs s.vars atom ≡ true)
 
-Selects-class : (c : PlainCondition) (var : ℕ) (s : PlainSlice) → Fits c.vars c.atoms → IsSliceOf c var s → Selects c s
-Selects-class c var s fits is =
+Selects-class : (c : PlainCondition) (var : ℕ) (s : PlainSlice) → NamesDeclared c → IsSliceOf c var s → Selects c s
+Selects-class c var s declared is =
     let some : 0 < length s.vars = let first = (is.vars.just var).1 (is.declared, alone) in omega (arith, first.1) in
     record {
       ascending = is.atoms.ascending;
@@ -75,7 +74,7 @@ Selects-class c var s fits is =
         λ has.
             let one = (is.atoms.just j).0 has in
             let found = Found-from (slice_get c.atoms j) (λ atom. Names atom one.0) one.2 in
-            let in_slice = (is.vars.just one.0).1 (named_below c j one.0 found.value fits found.is found.holds, one.1) in
+            let in_slice = (is.vars.just one.0).1 (named_below c j one.0 found.value declared found.is found.holds, one.1) in
             IsSomeAnd-found (slice_get c.atoms j) (λ atom. belongs s.vars atom ≡ true) found.value found.is ((belongs-tells s.vars found.value some).1 (one.0, in_slice, found.holds)),
         λ there.
             let found = Found-from (slice_get c.atoms j) (λ atom. belongs s.vars atom ≡ true) there in
@@ -102,13 +101,13 @@ Selects-front c [] s is has = absurd (omega (arith, has.1))
 Selects-front c (slice ∷ []) s is has = subst (Selects c) (only slice s has.0 has.1 has.2) (Selects-free c slice is)
 Selects-front c (slice ∷ another ∷ more) s is has = absurd is
 
-pub Selects-slice : (c : PlainCondition) (s : PlainSlice) → Fits c.vars c.atoms → IsSliceIn c s → Selects c s
-Selects-slice c s fits one =
+pub Selects-slice : (c : PlainCondition) (s : PlainSlice) → NamesDeclared c → IsSliceIn c s → Selects c s
+Selects-slice c s declared one =
     let all = one.all in
     let has : Contains (all.front ++ all.classes) s = rw all.joined at one.one in
     elim (Contains-append_cases all.front all.classes s has) [
       | inl in_front ↦ Selects-front c all.front s all.variable_free in_front
-      | inr in_classes ↦ Selects-class c (least s) s fits (All-contains (λ slice. IsSliceOf c (least slice) slice) all.classes s all.linked.each in_classes)
+      | inr in_classes ↦ Selects-class c (least s) s declared (All-contains (λ slice. IsSliceOf c (least slice) slice) all.classes s all.linked.each in_classes)
     ]
 
 -- ascending numbers from k on of just the elements that pass
@@ -169,7 +168,7 @@ nothing_past whole p k (m ∷ ms) past from =
     let within = within_from_IsSomeAnd whole (λ x. p x ≡ true) m both.1 in
     absurd (omega arith)
 
-true_or_false : (b : Bool) → (b ≡ true) ⊎ (b ≡ false)
+pub true_or_false : (b : Bool) → (b ≡ true) ⊎ (b ≡ false)
 true_or_false true = inl refl
 true_or_false false = inr refl
 

@@ -1,5 +1,5 @@
 -- What the slices of a condition list.
-use Rattle.std.proofs.Common.{◌≡◌, ◌⊎◌, ℕ, zero, suc, ◌+◌, ◌<◌, ◌≤◌, List, [], ◌∷◌, ◌++◌, length, get_or, Option, Some, None, refl, sym, ap, ◌∙◌, subst, inl, inr, arith}
+use Rattle.std.proofs.Common.{◌≡◌, ◌⊎◌, ℕ, zero, suc, ◌<◌, ◌≤◌, List, [], ◌∷◌, ◌++◌, length, get_or, Option, Some, None, ap, subst, inl, inr, arith}
 use Rattle.std.specs.List.{All, Any, AllPairs, Contains, slice_get, cons_option}
 use Rattle.std.specs.Option.{IsSomeAnd, IfSome}
 use Rattle.std.proofs.lemmas.List.Elements.{Contains-append_cases, Contains-get_or, All-contains, All-head, All-tail}
@@ -7,12 +7,12 @@ use Rattle.std.proofs.lemmas.Option.{slice_get_within, get_or_from_slice_get}
 use Rattle.lin_model.specs.Terms.{PlainTerm}
 use Rattle.lin_model.specs.Conditions.{PlainCondition, Fits, NamesBelow, AtomNamesBelow}
 use Rattle.lin_model.specs.declared.atom.Atom.{Atom}
-use Rattle.slicer.specs.Names.{Names, atom_vars, side_vars, NamesAt, NamesNothingAt}
+use Rattle.slicer.specs.Names.{Names, atom_vars, side_vars, NamesNothingAt}
 use Rattle.slicer.specs.Linked.{longer}
 use Rattle.slicer.specs.Laws.{HasNamed}
-use Rattle.slicer.specs.Slices.{PlainSlice, Lists, IsSliceOf, IsVariableFree, IsFront, AreSlices, least}
+use Rattle.slicer.specs.Slices.{PlainSlice, IsSliceOf, IsVariableFree, IsFront, least}
 use Rattle.canoniser.specs.Keys.{IsSliceIn}
-use Rattle.canoniser.proofs.Lookups.{Found, Found-from, within_from_IsSomeAnd}
+use Rattle.canoniser.proofs.Lookups.{Found-from, within_from_IsSomeAnd}
 use Rattle.canoniser.proofs.SideLemmas.{Contains-cases}
 
 -- an atom names only variables of the list
@@ -95,10 +95,14 @@ side_below n (t ∷ ts) v below has = elim (cons_option-cases t.var (side_vars t
   | inr later ↦ side_below n ts v (All-tail (λ term. IfSome term.var (λ w. w < n)) t ts below) later
 ]
 
-pub named_below : (c : PlainCondition) (j v : ℕ) (atom : Atom) → Fits c.vars c.atoms → slice_get c.atoms j ≡ Some atom → Names atom v → v < length c.vars
-named_below c j v atom fits is names =
+-- the atoms of a condition name only variables that it has
+abbrev pub NamesDeclared : PlainCondition → Type 0
+NamesDeclared c = All (AtomNamesBelow (length c.vars)) c.atoms
+
+pub named_below : (c : PlainCondition) (j v : ℕ) (atom : Atom) → NamesDeclared c → slice_get c.atoms j ≡ Some atom → Names atom v → v < length c.vars
+named_below c j v atom declared is names =
     let n = length c.vars in
-    let below : AtomNamesBelow n atom = subst (AtomNamesBelow n) (get_or_from_slice_get c.atoms j atom atom is) (fits.in_range j atom (slice_get_within c.atoms j atom is)) in
+    let below : AtomNamesBelow n atom = subst (AtomNamesBelow n) (get_or_from_slice_get c.atoms j atom atom is) (declared j atom (slice_get_within c.atoms j atom is)) in
     elim (Contains-append_cases (side_vars atom.left) (side_vars atom.right) v names) [
       | inl left ↦ side_below n atom.left v below.left left
       | inr right ↦ side_below n atom.right v below.right right
@@ -114,7 +118,7 @@ HasNamed-class c var s fits is j v has names =
     let names_u : Names atom u = subst (λ (o : Option Atom). IsSomeAnd o (λ x. Names x u)) found.is one.2 in
     let within = slice_get_within c.atoms j atom found.is in
     let both : Any (λ x. Names x u × Names x v) c.atoms = (j, atom, within, get_or_from_slice_get c.atoms j atom atom found.is, (names_u, found.holds)) in
-    (is.vars.just v).1 (named_below c j v atom fits found.is found.holds, longer one.1 both)
+    (is.vars.just v).1 (named_below c j v atom fits.in_range found.is found.holds, longer one.1 both)
 
 HasNamed-free : (c : PlainCondition) (s : PlainSlice) → IsVariableFree (NamesNothingAt c.atoms) s → HasNamed c s
 HasNamed-free c s is j v has names =

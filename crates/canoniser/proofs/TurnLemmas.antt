@@ -1,7 +1,7 @@
 -- One atom of a slice, over the slice's variables.
-use Rattle.std.proofs.Common.{◌≡◌, ◌≢◌, ◌↔◌, ℕ, zero, suc, ◌+◌, ◌<◌, ◌≤◌, List, [], ◌∷◌, ◌++◌, length, take, get_or, Option, Some, None, refl, sym, ap, ◌∙◌, subst, arith}
+use Rattle.std.proofs.Common.{◌≡◌, ◌≢◌, ℕ, zero, suc, ◌+◌, ◌<◌, ◌≤◌, List, [], ◌∷◌, ◌++◌, length, take, get_or, Option, Some, None, refl, sym, ap, ◌∙◌, subst, arith}
 use Rattle.std.specs.List.{All, AllPairs, Contains, slice_get, filter_map, cons_option}
-use Rattle.std.proofs.lemmas.List.Elements.{All-contains, Contains-get_or}
+use Rattle.std.proofs.lemmas.List.Elements.{Contains-get_or}
 use Rattle.std.proofs.lemmas.List.{length_push}
 use Rattle.std.proofs.Math.Seq.{take-length}
 use Rattle.lin_model.specs.Conditions.{PlainCondition, AtomNamesBelow, Fits}
@@ -11,7 +11,7 @@ use Rattle.slicer.specs.Slices.{PlainSlice}
 use Rattle.canoniser.specs.Forms.{always, says, never, ComesTo}
 use Rattle.canoniser.specs.Numbering.{atoms_of, order_of}
 use Rattle.canoniser.specs.Keys.{IsSliceIn}
-use Rattle.canoniser.specs.Solutions.{IsNever, IsFirstNever}
+use Rattle.canoniser.specs.Solutions.{IsFirstNever}
 use Rattle.canoniser.specs.Said.{AreSaid, ArePossible}
 use Rattle.canoniser.proofs.SliceLemmas.{NamesOnly, IsWithin-slice, HasNamed-slice}
 use Rattle.canoniser.proofs.SaidLemmas.{atoms_at, atoms_at-more, AreSaid-none, AreSaid-always, AreSaid-says, NoneNever, NoneNever-more, IsFirstNever-here, AtomNamesBelow-64}

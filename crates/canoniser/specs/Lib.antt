@@ -9,3 +9,4 @@ pub mod Strongest
 pub mod Solutions
 pub mod Said
 pub mod Answers
+pub mod Laws
