@@ -1,0 +1,12 @@
+pub mod Gathered
+pub mod Numbering
+pub mod Forms
+pub mod Limits
+pub mod Meaning
+pub mod Keys
+pub mod Parts
+pub mod Strongest
+pub mod Solutions
+pub mod Said
+pub mod Answers
+pub mod Laws

@@ -1,0 +1,7 @@
+//! Laws of keys, each the contract of a function that does nothing.
+ghost use Rattle.canoniser.specs.Laws.{RepeatingKeepsKeys};
+
+/// The key of a slice doesn't change when an atom of its condition is repeated after itself.
+pub fn repeating_keeps_keys()
+    ensures { RepeatingKeepsKeys }
+{}

@@ -1,0 +1,19 @@
+//! From a slice of a condition to its canonical key, and back.
+#![tactic(auto)]
+
+mod back;
+mod bounds;
+mod canonical;
+mod gathered;
+mod implied;
+mod keys;
+mod laws;
+mod numbering;
+mod outcome;
+mod said;
+mod strongest;
+
+pub use back::Back;
+pub use canonical::Canonical;
+pub use keys::canonise;
+pub use laws::repeating_keeps_keys;
