@@ -1,0 +1,249 @@
+-- From what the slices come to, to their keys.
+use Rattle.std.proofs.Common.{◌≡◌, ◌⊎◌, inl, inr, ◌↔◌, ℕ, zero, suc, ◌+◌, ◌<◌, ◌≤◌, ℤ, pos, Bool, true, false, cond, nat_lt, Option, Some, None, MatchOption, IsSomeAnd, List, [], ◌∷◌, ◌++◌, length, get_or, slice_get, arith, refl, sym, subst, ap, ◌∙◌, ⊎_elim}
+use Rattle.std.specs.List.{All, Any, AllZip, Contains, filter_map, cons_option}
+use Rattle.std.proofs.lemmas.Bool.{ltb-false}
+use Rattle.std.proofs.lemmas.Option.{slice_get_within}
+use Rattle.std.proofs.lemmas.List.Elements.{All-head, All-tail}
+use Rattle.lin_model.specs.Truth.{AtomHolds, IsAssignment}
+use Rattle.lin_model.specs.Test.{passes}
+use Rattle.lin_model.specs.Conditions.{PlainCondition, Fits}
+use Rattle.lin_model.specs.declared.atom.Atom.{Atom}
+use Rattle.lin_model.specs.declared.op.Op.{Op}
+use Rattle.lin_model.specs.KeyAtom.{PlainKeyAtom}
+use Rattle.lin_model.specs.Key.{KeyHolds}
+use Rattle.slicer.specs.Slices.{PlainSlice, AreSlices, AreClasses, IsSliceOf, Lists, least, IsVariableFree, IsFront}
+use Rattle.slicer.specs.Names.{NamesNothingAt, atom_vars}
+use Rattle.slicer.specs.Linked.{alone}
+use Rattle.slicer.specs.Laws.{SlicesPartition}
+use Rattle.canoniser.specs.declared.canonical.Canonical.{Canonical}
+use Rattle.canoniser.specs.declared.canonical.Canonical.TheVariants.{False, Key}
+use Rattle.canoniser.specs.Gathered.{constant, op_of, loose}
+use Rattle.canoniser.specs.Forms.{Outcome, always, never, says, alone as by_itself, ComesTo}
+use Rattle.canoniser.specs.Numbering.{atoms_of, order_of}
+use Rattle.canoniser.specs.Keys.{IsKeyOf, IsGiven, IsBound}
+use Rattle.canoniser.specs.Solutions.{IsNever, IsNeverAt, IsFirstNever, IsCanonised, SliceHolds, point_of}
+use Rattle.canoniser.specs.Answers.{Canonises}
+use Rattle.pipeline.specs.declared.slice_keys.SliceKey.{SliceKey}
+use Rattle.pipeline.specs.Answers.{NoneIsNever, IsLeastNever}
+use Rattle.pipeline.specs.Keyed.{HoldsAt, IsKeyed, AreKeyed, HasKey, IsNotBelow, IsLeastFalse, keys_in}
+
+-- ---- lists
+
+-- the pair at a place
+pub zip_at : {A B : Type 0} (R : A → B → Type 0) (xs : List A) (ys : List B) (k : ℕ) (d : A) (e : B) → AllZip R xs ys → k < length xs → R (get_or xs k d) (get_or ys k e)
+zip_at {A} {B} R [] [] k d e h lt = absurd (omega arith)
+zip_at {A} {B} R [] (y ∷ ys) k d e h lt = absurd h
+zip_at {A} {B} R (x ∷ xs) [] k d e h lt = absurd h
+zip_at {A} {B} R (x ∷ xs) (y ∷ ys) zero d e h lt = h.0
+zip_at {A} {B} R (x ∷ xs) (y ∷ ys) (suc k) d e h lt = zip_at R xs ys k d e h.1 (omega arith)
+
+pub zip_length : {A B : Type 0} (R : A → B → Type 0) (xs : List A) (ys : List B) → AllZip R xs ys → length xs ≡ length ys
+zip_length {A} {B} R [] [] h = refl
+zip_length {A} {B} R [] (y ∷ ys) h = absurd h
+zip_length {A} {B} R (x ∷ xs) [] h = absurd h
+zip_length {A} {B} R (x ∷ xs) (y ∷ ys) h = ap suc (zip_length R xs ys h.1)
+
+-- what holds of all that is kept holds of one that is
+cons_head : {Y : Type 0} (P : Y → Type 0) (o : Option Y) (ys : List Y) (y : Y) → o ≡ Some y → All P (cons_option o ys) → P y
+cons_head {Y} P None ys y e all = absurd (cc)
+cons_head {Y} P (Some z) ys y e all = let same : z ≡ y = cc in subst P same (All-head P z ys all)
+
+cons_tail : {Y : Type 0} (P : Y → Type 0) (o : Option Y) (ys : List Y) → All P (cons_option o ys) → All P ys
+cons_tail {Y} P None ys all = all
+cons_tail {Y} P (Some z) ys all = All-tail P z ys all
+
+pub All-filter_map : {X Y : Type 0} (h : X → Option Y) (P : Y → Type 0) (xs : List X) (x : X) (y : Y) → All P (filter_map h xs) → Contains xs x → h x ≡ Some y → P y
+All-filter_map {X} {Y} h P [] x y all (k, lt, is) kept = absurd (omega arith)
+All-filter_map {X} {Y} h P (w ∷ xs) x y all (zero, lt, is) kept = cons_head P (h w) (filter_map h xs) y (ap h is ∙ kept) all
+All-filter_map {X} {Y} h P (w ∷ xs) x y all (suc k, lt, is) kept = All-filter_map h P xs x y (cons_tail P (h w) (filter_map h xs) all) (k, omega arith, is) kept
+
+no_member : {X : Type 0} (xs : List X) → ((x : X) → Contains xs x → ⊥) → xs ≡ []
+no_member {X} [] h = refl
+no_member {X} (x ∷ xs) h = absurd (h x (0, omega arith, refl))
+
+-- ---- atoms that no integers satisfy
+
+-- an atom of a slice that comes to a number no less isn't one
+none_before : (q : PlainCondition) (s : PlainSlice) (c : Canonical) (i j : ℕ) → Canonises q s c → IsNotBelow j c → Contains s.atoms i → i < j → IsNeverAt q i → ⊥
+none_before q s (False n) i j h below has lt bad = h.first i has (omega (arith, below, lt)) bad
+none_before q s (Key key back) i j h below has lt bad = h.possible i has bad
+
+none_in_key : (q : PlainCondition) (s : PlainSlice) (c : Canonical) (i : ℕ) → Canonises q s c → HasKey c → Contains s.atoms i → IsNeverAt q i → ⊥
+none_in_key q s (False n) i h is has bad = absurd is
+none_in_key q s (Key key back) i h is has bad = h.possible i has bad
+
+-- a slice that has the atom, and what it comes to
+pub record Found (q : PlainCondition) (slices : List PlainSlice) (cs : List Canonical) (i : ℕ) : Type 0 where
+  pub slice : PlainSlice
+  pub place : ℕ
+  pub within : place < length cs
+  pub has : Contains slice.atoms i
+  pub each : (e : Canonical) → Canonises q slice (get_or cs place e)
+
+find_slice : (q : PlainCondition) (slices : List PlainSlice) (cs : List Canonical) (i : ℕ) → SlicesPartition → Fits q.vars q.atoms → AreSlices q slices → AllZip (Canonises q) slices cs → i < length q.atoms → Found q slices cs i
+find_slice q slices cs i law fits are zip lt = of ((law q slices fits are).each_atom i lt)
+  where
+    of : Any (λ slice. Contains slice.atoms i) slices → Found q slices cs i
+    of (k, s, within, is, has) = record {
+      slice = s;
+      place = k;
+      within = omega (arith, within, zip_length (Canonises q) slices cs zip);
+      has = has;
+      each = λ e. subst (λ (x : PlainSlice). Canonises q x (get_or cs k e)) is (zip_at (Canonises q) slices cs k s e zip within);
+    }
+
+-- there is an atom of this number
+has_number : (q : PlainCondition) (i : ℕ) → IsNeverAt q i → i < length q.atoms
+has_number q i bad = of (slice_get q.atoms i) refl bad
+  where
+    of : (o : Option Atom) → slice_get q.atoms i ≡ o → IsSomeAnd o IsNever → i < length q.atoms
+    of None e k = absurd k
+    of (Some atom) e k = slice_get_within q.atoms i atom e
+
+pub least_is_never : (q : PlainCondition) (slices : List PlainSlice) (cs : List Canonical) (j : ℕ) → SlicesPartition → Fits q.vars q.atoms → AreSlices q slices → AllZip (Canonises q) slices cs → IsLeastFalse cs j → IsLeastNever q j
+least_is_never q slices cs j law fits are zip false_j = record {
+  never = told false_j.one;
+  least = λ i lt bad. let f = find_slice q slices cs i law fits are zip (has_number q i bad) in none_before q f.slice (get_or cs f.place (False j)) i j (f.each (False j)) (false_j.least f.place (False j) f.within) f.has lt bad;
+}
+  where
+    told : Contains cs (False j) → IsNeverAt q j
+    told (k, lt, is) = let within : k < length slices = omega (arith, lt, zip_length (Canonises q) slices cs zip) in (subst (Canonises q (get_or slices k (record { vars = []; atoms = [] }))) is (zip_at (Canonises q) slices cs k (record { vars = []; atoms = [] }) (False j) zip within)).never
+
+none_is_never : (q : PlainCondition) (slices : List PlainSlice) (cs : List Canonical) → SlicesPartition → Fits q.vars q.atoms → AreSlices q slices → AllZip (Canonises q) slices cs → All HasKey cs → NoneIsNever q
+none_is_never q slices cs law fits are zip keys i bad =
+    let f = find_slice q slices cs i law fits are zip (has_number q i bad) in none_in_key q f.slice (get_or cs f.place (False 0)) i (f.each (False 0)) (keys f.place (False 0) f.within) f.has bad
+
+-- ---- slices with variables
+
+above_zero : (n : ℕ) → nat_lt 0 (suc n) ≡ true
+above_zero n = by_test (nat_lt 0 (suc n)) refl
+  where
+    by_test : (t : Bool) → nat_lt 0 (suc n) ≡ t → nat_lt 0 (suc n) ≡ true
+    by_test true e = e
+    by_test false e = absurd (omega (arith, ltb-false 0 (suc n) e))
+
+some_width : (xs ys : List ℕ) → ((v : ℕ) → Contains xs v ↔ Contains ys v) → 0 < length ys → nat_lt 0 (length xs) ≡ true
+some_width [] [] same lt = absurd (omega arith)
+some_width [] (y ∷ ys) same lt = absurd (no_such ((same y).1 (0, omega arith, refl)))
+  where
+    no_such : Contains [] y → ⊥
+    no_such (k, l, is) = omega arith
+some_width (x ∷ xs) ys same lt = above_zero (length xs)
+
+no_width : (xs : List ℕ) → ((v : ℕ) → Contains xs v ↔ Contains [] v) → xs ≡ []
+no_width xs same = no_member xs (λ v has. no_such v ((same v).0 has))
+  where
+    no_such : (v : ℕ) → Contains [] v → ⊥
+    no_such v (k, l, is) = omega arith
+
+keep : (b : Bool) (k : SliceKey) (ks : List SliceKey) → b ≡ true → cond b (k ∷ ks) ks ≡ k ∷ ks
+keep true k ks is = refl
+keep false k ks is = absurd (cc)
+
+-- each slice has a variable, and each comes to a key
+classes-keyed : (q : PlainCondition) (classes : List PlainSlice) (cs : List Canonical) → All (λ s. 0 < length s.vars) classes → AllZip (Canonises q) classes cs → All HasKey cs → AllZip (IsKeyed q) classes (keys_in cs)
+classes-keyed q [] [] some zip keys = tt
+classes-keyed q [] (c ∷ cs) some zip keys = absurd zip
+classes-keyed q (s ∷ classes) [] some zip keys = absurd zip
+classes-keyed q (s ∷ classes) (False j ∷ cs) some zip keys = absurd (All-head HasKey (False j) cs keys)
+classes-keyed q (s ∷ classes) (Key key back ∷ cs) some zip keys =
+    subst (AllZip (IsKeyed q) (s ∷ classes)) (sym (keep (nat_lt 0 (length back)) (record { key = key; back = back }) (keys_in cs) (some_width back s.vars zip.0.vars (All-head (λ t. 0 < length t.vars) s classes some)))) (zip.0, classes-keyed q classes cs (All-tail (λ t. 0 < length t.vars) s classes some) zip.1 (All-tail HasKey (Key key back) cs keys))
+
+-- the slice of a class has its least variable
+class-has_var : (q : PlainCondition) (s : PlainSlice) → IsSliceOf q (least s) s → 0 < length s.vars
+class-has_var q s is = of s.vars ((is.vars.just (least s)).1 (is.declared, alone))
+  where
+    of : (xs : List ℕ) → Contains xs (least s) → 0 < length xs
+    of xs (k, lt, e) = omega (arith, lt)
+
+classes-have_vars : (q : PlainCondition) (classes : List PlainSlice) → All (λ s. IsSliceOf q (least s) s) classes → All (λ s. 0 < length s.vars) classes
+classes-have_vars q classes each k d lt = class-has_var q (get_or classes k d) (each k d lt)
+
+-- ---- the slice without variables
+
+-- an atom over no variables says nothing
+says_nothing : (atom : Atom) (a : PlainKeyAtom) → ComesTo [] atom (says a) → ⊥
+says_nothing atom a comes = by_truth (passes (op_of atom.cmp) (loose atom.cmp (constant atom)) (pos 0)) comes
+  where
+    by_truth : (b : Bool) → says a ≡ cond b always never → ⊥
+    by_truth true e = absurd (cc)
+    by_truth false e = absurd (cc)
+
+-- a slice without variables has the empty key
+no_key : (q : PlainCondition) (s : PlainSlice) (key : List PlainKeyAtom) (back : List ℕ) → IsCanonised q s back key → back ≡ [] → key ≡ []
+no_key q s key back h none = no_member key (λ a has. of a ((h.is_key.just a).0 has).one)
+  where
+    empty : order_of q s ≡ []
+    empty = sym h.numbered ∙ none
+    by_atom : (a : PlainKeyAtom) → Any (λ atom. ComesTo (order_of q s) atom (says a)) (atoms_of q s) → ⊥
+    by_atom a (k, atom, lt, is, comes) = says_nothing atom a (subst (λ (o : List ℕ). ComesTo o atom (says a)) empty comes)
+    by_bound : (a : PlainKeyAtom) → IsBound q (order_of q s) a → ⊥
+    by_bound a (v, lt, at) = let none_long : length (order_of q s) ≡ 0 = ap length empty in omega (arith, lt, none_long)
+    of : (a : PlainKeyAtom) → IsGiven q s a → ⊥
+    of a given = ⊎_elim (λ any. by_atom a any) (λ bound. by_bound a bound) given
+
+-- its atoms hold whatever the assignment
+always_holds : (q : PlainCondition) (s : PlainSlice) (c : Canonical) → s.vars ≡ [] → Canonises q s c → HasKey c → (values : List ℤ) → IsAssignment q.vars values → SliceHolds q s values
+always_holds q s (False j) none h is values assigned = absurd is
+always_holds q s (Key key back) none h is values assigned =
+    let empty : back ≡ [] = no_width back (subst (λ (vs : List ℕ). (v : ℕ) → Contains back v ↔ Contains vs v) none h.vars) in
+    (h.same values assigned).1 (subst (λ (k : List PlainKeyAtom). KeyHolds k (point_of back values)) (sym (no_key q s key back h empty)) (λ k d lt. absurd (omega arith)))
+
+-- there is an item at a place below the length
+there : {X : Type 0} (xs : List X) (i : ℕ) → i < length xs → slice_get xs i ≡ None → ⊥
+there {X} [] i lt e = omega (arith, lt)
+there {X} (x ∷ xs) zero lt e = absurd (cc)
+there {X} (x ∷ xs) (suc i) lt e = there xs i (omega (arith, lt)) e
+
+pub atom_holds_at : (q : PlainCondition) (s : PlainSlice) (values : List ℤ) (j : ℕ) → SliceHolds q s values → Contains s.atoms j → j < length q.atoms → HoldsAt q values j
+atom_holds_at q s values j holds has lt = of (slice_get q.atoms j) refl
+  where
+    of : (o : Option Atom) → slice_get q.atoms j ≡ o → IsSomeAnd o (λ atom. AtomHolds atom values)
+    of None e = absurd (there q.atoms j lt e)
+    of (Some atom) e = All-filter_map (λ j. slice_get q.atoms j) (λ atom. AtomHolds atom values) s.atoms j atom holds has e
+
+-- ---- the keys
+
+drop_key : (b : Bool) (k : SliceKey) (ks : List SliceKey) → b ≡ false → cond b (k ∷ ks) ks ≡ ks
+drop_key true k ks is = absurd (cc)
+drop_key false k ks is = refl
+
+is_false : (xs : List ℕ) → xs ≡ [] → nat_lt 0 (length xs) ≡ false
+is_false xs e = ap (λ (ys : List ℕ). nat_lt 0 (length ys)) e
+
+-- the slice without variables stands in front
+one_front : (q : PlainCondition) (s : PlainSlice) (slices : List PlainSlice) (are : AreSlices q slices) (cs : List Canonical) → IsVariableFree (NamesNothingAt q.atoms) s → AllZip (Canonises q) (s ∷ are.classes) cs → All HasKey cs → NoneIsNever q → AreKeyed q (keys_in cs)
+one_front q s slices are [] free zip keys possible = absurd zip
+one_front q s slices are (False j ∷ cs) free zip keys possible = absurd (All-head HasKey (False j) cs keys)
+one_front q s slices are (Key key back ∷ cs) free zip keys possible = record {
+  slices = slices;
+  are = are;
+  each = subst (AllZip (IsKeyed q) are.classes) (sym (drop_key (nat_lt 0 (length back)) (record { key = key; back = back }) (keys_in cs) (is_false back empty))) (classes-keyed q are.classes cs (classes-have_vars q are.classes are.linked.each) zip.1 (All-tail HasKey (Key key back) cs keys));
+  possible = possible;
+  variable_free = λ values assigned j names. atom_holds_at q s values j (always_holds q s (Key key back) free.vars zip.0 tt values assigned) ((free.atoms.just j).1 names) (has_atom j names);
+}
+  where
+    empty : back ≡ []
+    empty = no_width back (subst (λ (vs : List ℕ). (v : ℕ) → Contains back v ↔ Contains vs v) free.vars zip.0.vars)
+    has_atom : (j : ℕ) → NamesNothingAt q.atoms j → j < length q.atoms
+    has_atom j names = of (slice_get q.atoms j) refl names
+      where
+        of : (o : Option Atom) → slice_get q.atoms j ≡ o → IsSomeAnd o (λ atom. atom_vars atom ≡ []) → j < length q.atoms
+        of None e k = absurd k
+        of (Some atom) e k = slice_get_within q.atoms j atom e
+
+pub keys_are_keyed : (q : PlainCondition) (slices : List PlainSlice) (cs : List Canonical) → SlicesPartition → Fits q.vars q.atoms → AreSlices q slices → AllZip (Canonises q) slices cs → All HasKey cs → AreKeyed q (keys_in cs)
+keys_are_keyed q slices cs law fits are zip keys = of are.front are.variable_free are.joined
+  where
+    joined : (front : List PlainSlice) → slices ≡ front ++ are.classes → AllZip (Canonises q) (front ++ are.classes) cs
+    joined front is = subst (λ (ss : List PlainSlice). AllZip (Canonises q) ss cs) is zip
+    of : (front : List PlainSlice) → IsFront (NamesNothingAt q.atoms) front → slices ≡ front ++ are.classes → AreKeyed q (keys_in cs)
+    of [] none is = record {
+      slices = slices;
+      are = are;
+      each = classes-keyed q are.classes cs (classes-have_vars q are.classes are.linked.each) (joined [] is) keys;
+      possible = none_is_never q slices cs law fits are zip keys;
+      variable_free = λ values assigned j names. absurd (none j names);
+    }
+    of (s ∷ []) one is = one_front q s slices are cs one (joined (s ∷ []) is) keys (none_is_never q slices cs law fits are zip keys)
+    of (s ∷ t ∷ more) bad is = absurd bad

@@ -1,0 +1,7 @@
+use Rattle.std.proofs.Common.{◌≡◌}
+use Rattle.pipeline.specs.Keyed.{keys_in}
+use Rattle.pipeline.proofs.slice_keys.with_variables.Given as goal
+
+-- the keys so far
+abbrev pub invariant-loop-canonical : goal.invariant-loop-canonical
+invariant-loop-canonical l = l.keys.items ≡ keys_in l.yielded

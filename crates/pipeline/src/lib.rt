@@ -1,0 +1,13 @@
+//! Answers to whole queries, by their slices.
+#![tactic(auto)]
+
+mod answer;
+mod asking;
+mod limits;
+mod model;
+mod query;
+mod slice_keys;
+mod solving;
+
+pub use answer::{Plain, PlainPart, Told};
+pub use query::answer_query;

@@ -1,0 +1,37 @@
+//! Answering one query.
+ghost use Rattle.std.specs.Prelude.{◌≡◌, ◌≤◌, IfOk};
+ghost use Rattle.pipeline.specs.Answers.{IsRightAnswer};
+
+use crate::answer::{Plain, Told};
+use crate::asking::ask_all;
+use crate::slice_keys::{Keyed, keys_of};
+use box_solver::TreeRegion;
+use lin_model::Condition;
+use outside::NoMemory;
+use sqlite_items::Items;
+use std::alloc::Global;
+
+/// Answers a query (after Green, FSE 2012). All slices are brought to their keys first. Where some atom is
+/// satisfied by no integers, the least such atom is told and no slice is asked. Otherwise the slices with
+/// variables are asked in order, up to and with the first that has no model, each with at most `budget` splits,
+/// 1 to 100,000: unsat by that slice, or else unknown of the first slice on which the splits were used up, or
+/// else sat with a value for each variable. The region is left as it was.
+pub fn answer_query(
+    alloc: Global,
+    query: &Condition,
+    budget: u32,
+    region: &mut TreeRegion,
+) -> Result<Plain, NoMemory>
+    requires some { 1 ≤ budget }
+    requires few { budget ≤ 100000 }
+    ensures answer { IfOk result (IsRightAnswer budget query.now) }
+    ensures region { region.new ≡ region.old }
+{
+    match keys_of(alloc, query)? {
+        Keyed::Never(j) => Ok(Plain {
+            verdict: Told::UnsatAtom(j),
+            parts: Items::new(alloc),
+        }),
+        Keyed::Keys(keys) => ask_all(alloc, query, &keys, budget, region),
+    }
+}
