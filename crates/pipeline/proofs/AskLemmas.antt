@@ -1,6 +1,6 @@
 -- Asking one more slice.
-use Rattle.std.proofs.Common.{◌≡◌, ◌≢◌, ◌⊎◌, inl, inr, ⊎_elim, ℕ, zero, suc, ◌+◌, ◌<◌, ◌≤◌, ℤ, pos, Option, Some, None, MatchOption, IsSomeAnd, List, [], ◌∷◌, ◌++◌, length, get_or, slice_get, take, drop, map, Vec, Global, arith, refl, sym, subst, ap, ◌∙◌}
-use Rattle.std.specs.List.{All, AllZip, AllPairs, Contains, slice_index}
+use Rattle.std.proofs.Common.{◌≡◌, ℕ, zero, suc, ◌<◌, ◌≤◌, ℤ, Option, Some, None, MatchOption, IsSomeAnd, List, [], ◌∷◌, ◌++◌, length, get_or, slice_get, take, drop, Vec, Global, arith, refl, sym, subst, ap, ◌∙◌}
+use Rattle.std.specs.List.{All, AllPairs, Contains, slice_index}
 use Rattle.std.specs.Option.{unwrap_or}
 use Rattle.std.specs.Vec.{with_items}
 use Rattle.std.proofs.Math.Seq.{take-append_seam}
@@ -8,9 +8,8 @@ use Rattle.std.proofs.lemmas.List.{get_or_default}
 use Rattle.std.proofs.lemmas.List.Elements.{All-push}
 use Rattle.lin_model.specs.Terms.{value_at}
 use Rattle.lin_model.specs.Conditions.{PlainCondition, Fits}
-use Rattle.lin_model.specs.KeyAtom.{PlainKeyAtom}
 use Rattle.lin_model.specs.Key.{KeyHolds, key_width}
-use Rattle.slicer.specs.Slices.{PlainSlice, AreSlices, AreClasses, least as least_of}
+use Rattle.slicer.specs.Slices.{PlainSlice, AreClasses, least as least_of}
 use Rattle.refutation.specs.Tree.{PlainTree}
 use Rattle.canoniser.specs.Solutions.{point_of}
 use Rattle.pipeline.specs.declared.slice_keys.SliceKey.{SliceKey}
@@ -84,8 +83,10 @@ ask_model budget q asked parts least old new k point h others model width same p
     first : (o : Option ℕ) → MatchOption o (All (λ part. part ≡ Solved) parts) (IsFirstOpen parts) → MatchOption o (All (λ part. part ≡ Solved) (parts ++ Solved ∷ [])) (IsFirstOpen (parts ++ Solved ∷ []))
     first None all = All-push (λ part. part ≡ Solved) parts Solved all refl
     first (Some s) at = first_stays parts Solved s at
+
     here : IsMet new k
     here = subst (KeyHolds k.key) (sym (given_point k.back new point (model.one_each ∙ width) placed)) model.holds
+
     still : (i : ℕ) (d : SliceKey) → i < length asked → IsMet old (get_or asked i d) → IsMet new (get_or asked i d)
     still i d lt met = subst (KeyHolds (get_or asked i d).key) (sym (kept_point (get_or asked i d).back old new (λ n e l. kept (get_or (get_or asked i d).back n e) (λ has. others i d lt (get_or (get_or asked i d).back n e) (n, l, get_or_default (get_or asked i d).back n (get_or (get_or asked i d).back n e) e l) has)))) met
 

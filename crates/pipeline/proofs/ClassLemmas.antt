@@ -1,20 +1,17 @@
 -- The slices with variables of a query whose slices were brought to keys.
-use Rattle.std.proofs.Common.{◌≡◌, ◌⊎◌, inl, inr, ⊎_elim, ◌↔◌, ℕ, zero, suc, ◌+◌, ◌<◌, ◌≤◌, ℤ, pos, Option, Some, None, IsSomeAnd, List, [], ◌∷◌, ◌++◌, length, get_or, slice_get, take, map, arith, refl, sym, subst, ap, ◌∙◌}
-use Rattle.std.specs.List.{All, Any, AllZip, AllPairs, Contains, filter_map, cons_option}
+use Rattle.std.proofs.Common.{◌≡◌, ◌⊎◌, inl, inr, ⊎_elim, ℕ, zero, suc, ◌<◌, ℤ, Option, Some, None, IsSomeAnd, List, [], ◌∷◌, ◌++◌, length, get_or, slice_get, take, arith, refl, sym, subst, ◌∙◌}
+use Rattle.std.specs.List.{All, Any, AllPairs, Contains, filter_map, cons_option}
 use Rattle.std.proofs.lemmas.List.{get_or_default, get_or-take, length-take}
 use Rattle.std.proofs.lemmas.Option.{slice_get_within, get_or_from_slice_get}
-use Rattle.std.proofs.lemmas.List.Elements.{All-head, All-tail, All-cons}
+use Rattle.std.proofs.lemmas.List.Elements.{All-cons}
 use Rattle.lin_model.specs.Terms.{value_at, PlainVar}
 use Rattle.lin_model.specs.Truth.{AtomHolds, IsAssignment, InBounds}
 use Rattle.lin_model.specs.Conditions.{PlainCondition, Fits, Holds, IsSatisfiable}
 use Rattle.lin_model.specs.declared.atom.Atom.{Atom}
-use Rattle.lin_model.specs.KeyAtom.{PlainKeyAtom}
-use Rattle.lin_model.specs.Key.{KeyHolds}
-use Rattle.slicer.specs.Slices.{PlainSlice, AreSlices, AreClasses, IsSliceOf, IsFront, least}
+use Rattle.slicer.specs.Slices.{PlainSlice, IsFront}
 use Rattle.slicer.specs.Names.{NamesNothingAt}
-use Rattle.slicer.specs.Laws.{SlicesPartition, IsPartition, AreApart}
-use Rattle.canoniser.specs.Numbering.{atoms_of}
-use Rattle.canoniser.specs.Solutions.{IsCanonised, SliceHolds, point_of}
+use Rattle.slicer.specs.Laws.{SlicesPartition, AreApart}
+use Rattle.canoniser.specs.Solutions.{point_of}
 use Rattle.refutation.specs.Reading.{HasNoPoint}
 use Rattle.pipeline.specs.declared.slice_keys.SliceKey.{SliceKey}
 use Rattle.pipeline.specs.Keyed.{HoldsAt, IsKeyed, AreKeyed}
@@ -74,8 +71,10 @@ others q keys h i k law fits lt is n d within v one other =
   where
     before : n < i
     before = omega (arith, within, length-take i keys)
+
     first : Contains (get_or keys n d).back v
     first = subst (λ (j : SliceKey). Contains j.back v) (get_or-take i keys n d before) one
+
     apart : AreApart (get_or h.are.classes n no_slice) (get_or h.are.classes i no_slice)
     apart = pairs_tail AreApart h.are.front h.are.classes (subst (AllPairs AreApart) h.are.joined (law q h.slices fits h.are).apart) n i no_slice before (omega (arith, lt, zip_length (IsKeyed q) h.are.classes keys h.each))
 
@@ -123,8 +122,10 @@ within_bounds q keys h values met n var lt = in_class (h.are.linked.every n lt)
     at_place : (i v : ℕ) (k : SliceKey) → i < length keys → k ≡ get_or keys i k → v < length k.back → get_or k.back v 0 ≡ n → InBounds (get_or q.vars n var) (value_at values n)
     at_place i v k within is low named =
         some_at q.vars n var (λ (x : PlainVar). InBounds x (value_at values n)) (subst (λ (m : ℕ). IsSomeAnd (slice_get q.vars m) (λ x. InBounds x (value_at values m))) named (subst (λ (z : ℤ). IsSomeAnd (slice_get q.vars (get_or k.back v 0)) (λ x. InBounds x z)) (value_of_point k.back values v low) ((keyed q keys h i k within is).bounds (point_of k.back values) (met_at keys values met i k within is) v low)))
+
     in_back : (i : ℕ) (k : SliceKey) → i < length keys → k ≡ get_or keys i k → Contains k.back n → InBounds (get_or q.vars n var) (value_at values n)
     in_back i k within is (v, low, named) = at_place i v k within is low (get_or_default k.back v 0 n low ∙ named)
+
     in_class : Any (λ slice. Contains slice.vars n) h.are.classes → InBounds (get_or q.vars n var) (value_at values n)
     in_class (i, s, within, is, has) =
         let lt_keys : i < length keys = omega (arith, within, zip_length (IsKeyed q) h.are.classes keys h.each) in
@@ -146,6 +147,7 @@ all_hold q keys h values law fits met assignment j d lt = some_at q.atoms j d (�
         only zero w e = e
         only (suc k) w e = absurd (omega (arith, w))
     in_front (t ∷ u ∷ more) free any = absurd free
+
     in_class : Any (λ slice. Contains slice.atoms j) h.are.classes → HoldsAt q values j
     in_class (i, s, within, is, has) =
         let lt_keys : i < length keys = omega (arith, within, zip_length (IsKeyed q) h.are.classes keys h.each) in
@@ -153,6 +155,7 @@ all_hold q keys h values law fits met assignment j d lt = some_at q.atoms j d (�
         let k : SliceKey = key_at keys i in
         let met_k : IsMet values (key_at keys i) = met_at keys values met i (key_at keys i) lt_keys (key_at-is keys i lt_keys) in
         atom_holds_at q (get_or h.are.classes i no_slice) values j (((keyed q keys h i (key_at keys i) lt_keys (key_at-is keys i lt_keys)).same values assignment).1 met_k) (subst (λ (t : PlainSlice). Contains t.atoms j) (sym here) has) lt
+
     by_slice : Any (λ slice. Contains slice.atoms j) h.are.front ⊎ Any (λ slice. Contains slice.atoms j) h.are.classes → HoldsAt q values j
     by_slice either = ⊎_elim (λ a. in_front h.are.front h.are.variable_free a) (λ b. in_class b) either
 

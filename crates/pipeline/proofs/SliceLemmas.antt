@@ -1,5 +1,5 @@
 -- From what the slices come to, to their keys.
-use Rattle.std.proofs.Common.{◌≡◌, ◌⊎◌, inl, inr, ◌↔◌, ℕ, zero, suc, ◌+◌, ◌<◌, ◌≤◌, ℤ, pos, Bool, true, false, cond, nat_lt, Option, Some, None, MatchOption, IsSomeAnd, List, [], ◌∷◌, ◌++◌, length, get_or, slice_get, arith, refl, sym, subst, ap, ◌∙◌, ⊎_elim}
+use Rattle.std.proofs.Common.{◌≡◌, ◌↔◌, ℕ, zero, suc, ◌<◌, ℤ, pos, Bool, true, false, cond, nat_lt, Option, Some, None, IsSomeAnd, List, [], ◌∷◌, ◌++◌, length, get_or, slice_get, arith, refl, sym, subst, ap, ◌∙◌, ⊎_elim}
 use Rattle.std.specs.List.{All, Any, AllZip, Contains, filter_map, cons_option}
 use Rattle.std.proofs.lemmas.Bool.{ltb-false}
 use Rattle.std.proofs.lemmas.Option.{slice_get_within}
@@ -8,20 +8,19 @@ use Rattle.lin_model.specs.Truth.{AtomHolds, IsAssignment}
 use Rattle.lin_model.specs.Test.{passes}
 use Rattle.lin_model.specs.Conditions.{PlainCondition, Fits}
 use Rattle.lin_model.specs.declared.atom.Atom.{Atom}
-use Rattle.lin_model.specs.declared.op.Op.{Op}
 use Rattle.lin_model.specs.KeyAtom.{PlainKeyAtom}
 use Rattle.lin_model.specs.Key.{KeyHolds}
-use Rattle.slicer.specs.Slices.{PlainSlice, AreSlices, AreClasses, IsSliceOf, Lists, least, IsVariableFree, IsFront}
+use Rattle.slicer.specs.Slices.{PlainSlice, AreSlices, IsSliceOf, least, IsVariableFree, IsFront}
 use Rattle.slicer.specs.Names.{NamesNothingAt, atom_vars}
 use Rattle.slicer.specs.Linked.{alone}
 use Rattle.slicer.specs.Laws.{SlicesPartition}
 use Rattle.canoniser.specs.declared.canonical.Canonical.{Canonical}
 use Rattle.canoniser.specs.declared.canonical.Canonical.TheVariants.{False, Key}
 use Rattle.canoniser.specs.Gathered.{constant, op_of, loose}
-use Rattle.canoniser.specs.Forms.{Outcome, always, never, says, alone as by_itself, ComesTo}
+use Rattle.canoniser.specs.Forms.{always, never, says, ComesTo}
 use Rattle.canoniser.specs.Numbering.{atoms_of, order_of}
-use Rattle.canoniser.specs.Keys.{IsKeyOf, IsGiven, IsBound}
-use Rattle.canoniser.specs.Solutions.{IsNever, IsNeverAt, IsFirstNever, IsCanonised, SliceHolds, point_of}
+use Rattle.canoniser.specs.Keys.{IsGiven, IsBound}
+use Rattle.canoniser.specs.Solutions.{IsNever, IsNeverAt, IsCanonised, SliceHolds, point_of}
 use Rattle.canoniser.specs.Answers.{Canonises}
 use Rattle.pipeline.specs.declared.slice_keys.SliceKey.{SliceKey}
 use Rattle.pipeline.specs.Answers.{NoneIsNever, IsLeastNever}
@@ -175,10 +174,13 @@ no_key q s key back h none = no_member key (λ a has. of a ((h.is_key.just a).0 
   where
     empty : order_of q s ≡ []
     empty = sym h.numbered ∙ none
+
     by_atom : (a : PlainKeyAtom) → Any (λ atom. ComesTo (order_of q s) atom (says a)) (atoms_of q s) → ⊥
     by_atom a (k, atom, lt, is, comes) = says_nothing atom a (subst (λ (o : List ℕ). ComesTo o atom (says a)) empty comes)
+
     by_bound : (a : PlainKeyAtom) → IsBound q (order_of q s) a → ⊥
     by_bound a (v, lt, at) = let none_long : length (order_of q s) ≡ 0 = ap length empty in omega (arith, lt, none_long)
+
     of : (a : PlainKeyAtom) → IsGiven q s a → ⊥
     of a given = ⊎_elim (λ any. by_atom a any) (λ bound. by_bound a bound) given
 
@@ -225,6 +227,7 @@ one_front q s slices are (Key key back ∷ cs) free zip keys possible = record {
   where
     empty : back ≡ []
     empty = no_width back (subst (λ (vs : List ℕ). (v : ℕ) → Contains back v ↔ Contains vs v) free.vars zip.0.vars)
+
     has_atom : (j : ℕ) → NamesNothingAt q.atoms j → j < length q.atoms
     has_atom j names = of (slice_get q.atoms j) refl names
       where
@@ -237,6 +240,7 @@ keys_are_keyed q slices cs law fits are zip keys = of are.front are.variable_fre
   where
     joined : (front : List PlainSlice) → slices ≡ front ++ are.classes → AllZip (Canonises q) (front ++ are.classes) cs
     joined front is = subst (λ (ss : List PlainSlice). AllZip (Canonises q) ss cs) is zip
+
     of : (front : List PlainSlice) → IsFront (NamesNothingAt q.atoms) front → slices ≡ front ++ are.classes → AreKeyed q (keys_in cs)
     of [] none is = record {
       slices = slices;

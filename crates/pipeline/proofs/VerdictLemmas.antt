@@ -1,6 +1,6 @@
 -- Right verdicts, from how far the asking came.
-use Rattle.std.proofs.Common.{◌≡◌, ℕ, zero, suc, ◌+◌, ◌<◌, ◌≤◌, ℤ, Option, Some, None, IsSomeAnd, List, [], ◌∷◌, ◌++◌, length, get_or, slice_get, take, arith, refl, sym, subst, ap, ◌∙◌}
-use Rattle.std.specs.List.{All, AllZip}
+use Rattle.std.proofs.Common.{◌≡◌, ℕ, zero, suc, ◌+◌, ◌<◌, ℤ, Option, Some, None, IsSomeAnd, List, [], ◌∷◌, ◌++◌, length, get_or, slice_get, take, arith, refl, sym, subst, ap, ◌∙◌}
+use Rattle.std.specs.List.{AllZip}
 use Rattle.std.proofs.Math.Seq.{take-append_seam}
 use Rattle.std.proofs.lemmas.List.{length_push}
 use Rattle.std.proofs.lemmas.Option.{slice_get_within, get_or_from_slice_get}
@@ -15,8 +15,7 @@ use Rattle.pipeline.specs.declared.slice_keys.SliceKey.{SliceKey}
 use Rattle.pipeline.specs.declared.answer.PlainPart.{PlainPart}
 use Rattle.pipeline.specs.declared.answer.PlainPart.TheVariants.{Solved, Open}
 use Rattle.pipeline.specs.declared.answer.Told.TheVariants.{Sat, UnsatAtom, UnsatSlice, Unknown}
-use Rattle.pipeline.specs.declared.answer.Plain.{Plain}
-use Rattle.pipeline.specs.Answers.{Leaves, HasNoModel, IsRightAnswer, IsFirstOpen}
+use Rattle.pipeline.specs.Answers.{Leaves, HasNoModel, IsRightAnswer}
 use Rattle.pipeline.specs.Keyed.{IsKeyed, AreKeyed, IsImpossible}
 use Rattle.pipeline.specs.Asking.{KeyLeaves, IsAsked}
 use Rattle.pipeline.proofs.AskLemmas.{get-last}
@@ -68,6 +67,7 @@ right_unsat budget q keys h parts least values i k lt is asked long none = recor
   where
     parts_long : length parts ≡ i
     parts_long = sym (zip_length (λ (j : SliceKey) (part : PlainPart). KeyLeaves budget j.key part) (take i keys) parts asked.leaves) ∙ long
+
     front : take i (parts ++ Solved ∷ []) ≡ parts
     front = ap (λ (n : ℕ). take n (parts ++ Solved ∷ [])) (sym parts_long) ∙ take-append_seam parts (Solved ∷ [])
 

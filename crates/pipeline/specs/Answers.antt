@@ -1,5 +1,5 @@
 -- What is answered to a query, and when the answer is right.
-use Rattle.std.specs.Prelude.{◌≡◌, ℕ, ◌+◌, ◌<◌, ℤ, IsSomeAnd, Some, List, [], ◌∷◌, length, take}
+use Rattle.std.specs.Prelude.{◌≡◌, ℕ, ◌+◌, ◌<◌, ℤ, IsSomeAnd, Some, List, [], length, take}
 use Rattle.std.specs.List.{All, AllZip, slice_get}
 use Rattle.lin_model.specs.Conditions.{PlainCondition, Holds, IsSatisfiable}
 use Rattle.lin_model.specs.KeyAtom.{PlainKeyAtom}

@@ -1,13 +1,13 @@
 -- The keys of a query's slices.
-use Rattle.std.specs.Prelude.{◌≡◌, ℕ, ◌<◌, ◌≤◌, min, nat_lt, if◌then◌else◌, Option, Some, None, IsSomeAnd, ℤ, List, [], ◌∷◌, length, Contains}
-use Rattle.std.specs.List.{All, Any, AllZip, slice_get}
+use Rattle.std.specs.Prelude.{ℕ, ◌≤◌, min, nat_lt, if◌then◌else◌, Option, Some, None, IsSomeAnd, ℤ, List, [], ◌∷◌, length, Contains}
+use Rattle.std.specs.List.{All, AllZip, slice_get}
 use Rattle.lin_model.specs.Conditions.{PlainCondition}
 use Rattle.lin_model.specs.Truth.{AtomHolds, IsAssignment}
 use Rattle.slicer.specs.Slices.{PlainSlice, AreSlices}
 use Rattle.slicer.specs.Names.{NamesNothingAt}
 use Rattle.canoniser.specs.declared.canonical.Canonical.{Canonical}
 use Rattle.canoniser.specs.declared.canonical.Canonical.TheVariants.{False, Key}
-use Rattle.canoniser.specs.Solutions.{IsNeverAt, IsCanonised}
+use Rattle.canoniser.specs.Solutions.{IsCanonised}
 use Rattle.pipeline.specs.declared.slice_keys.SliceKey.{SliceKey}
 use Rattle.pipeline.specs.declared.slice_keys.Keyed.{Keyed}
 use Rattle.pipeline.specs.declared.slice_keys.Keyed.TheVariants.{Never, Keys}

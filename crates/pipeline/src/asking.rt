@@ -33,6 +33,7 @@ pub fn ask_all(
     let mut open = None;
     let mut values = vec![in alloc; 0; query.vars().len()]?;
     for (s, slice) in keys.iter().enumerate() {
+        let number = s as u32;
         match solve_key(alloc, &slice.key, budget, region)? {
             Reply::Model(point) => {
                 place(&mut values, &slice.back, &point);
@@ -41,13 +42,13 @@ pub fn ask_all(
             Reply::Refuted => {
                 parts.push(PlainPart::Solved)?;
                 return Ok(Plain {
-                    verdict: Told::UnsatSlice(s as u32),
+                    verdict: Told::UnsatSlice(number),
                     parts,
                 });
             }
             Reply::Spent(tree) => {
                 parts.push(PlainPart::Open(tree))?;
-                open = Some(open.unwrap_or(s as u32));
+                open = Some(open.unwrap_or(number));
             }
         }
     }

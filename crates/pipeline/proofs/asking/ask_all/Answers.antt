@@ -1,17 +1,14 @@
-use Rattle.std.proofs.Common.{◌≡◌, ℕ, ◌+◌, ◌<◌, ◌≤◌, ◌++◌, ◌^◌, ℤ, Option, Some, None, List, [], ◌∷◌, length, take, get_or, arith, refl, subst, sym, ap, ◌∙◌, rules, w32, Fits, Vec, Global}
+use Rattle.std.proofs.Common.{◌≡◌, ℕ, ◌<◌, ℤ, Some, List, [], length, take, arith, refl, subst, sym, ap, ◌∙◌, rules, Vec, Global}
 use Rattle.std.specs.List.{All, AllZip, Contains, slice_index}
-use Rattle.std.specs.Option.{unwrap_or}
-use Rattle.std.proofs.lemmas.List.{take_all, length-take, length-take-le}
+use Rattle.std.proofs.lemmas.List.{take_all, length-take-le}
 use Rattle.lin_model.specs.Terms.{value_at}
-use Rattle.lin_model.specs.Key.{key_width}
 use Rattle.pipeline.specs.declared.slice_keys.SliceKey.{SliceKey}
 use Rattle.pipeline.specs.declared.answer.PlainPart.{PlainPart}
-use Rattle.pipeline.specs.declared.answer.PlainPart.TheVariants.{Solved, Open}
-use Rattle.pipeline.specs.declared.answer.Plain.{Plain}
-use Rattle.pipeline.specs.declared.answer.Told.TheVariants.{Sat, UnsatSlice, Unknown}
+use Rattle.pipeline.specs.declared.answer.PlainPart.TheVariants.{Solved}
+use Rattle.pipeline.specs.declared.answer.Told.TheVariants.{Sat, UnsatSlice}
 use Rattle.refutation.specs.Reading.{HasNoPoint}
 use Rattle.pipeline.specs.Answers.{IsModelOf, IsSpentOn, IsRightAnswer, Replies}
-use Rattle.pipeline.specs.Asking.{IsAsked, KeyLeaves}
+use Rattle.pipeline.specs.Asking.{KeyLeaves}
 use Rattle.pipeline.proofs.KeyedLemmas.{front_more}
 use Rattle.pipeline.proofs.AskLemmas.{ask_model, ask_open, few_classes, asked_as, none_if, refilled}
 use Rattle.pipeline.proofs.SliceLemmas.{zip_length}
@@ -51,9 +48,6 @@ returns-in_err-push-in-Model-clause-region c = c.solve_key.ensures.region ∙ c.
 pub returns-in_err-push-in-Refuted-clause-region : goal.returns-in_err-push-in-Refuted-clause-region
 returns-in_err-push-in-Refuted-clause-region c = c.solve_key.ensures.region ∙ c.loop-s.invariant.region
 
-pub overflow_cast-result : goal.overflow_cast-result
-overflow_cast-result c = omega (arith, c.loop-s-test.true, zip_length _ _ _ c.requires.keyed.each, few_classes c.args.query.now c.requires.keyed.are.classes c.vars.ensures.fits c.requires.keyed.are.linked)
-
 pub returns-in-Refuted-clause-answer : goal.returns-in-Refuted-clause-answer
 returns-in-Refuted-clause-answer c =
     let none : HasNoPoint c.index-keys-s.result.key = subst (Replies c.args.budget c.index-keys-s.result.key) c.in-Refuted.is (c.in_ok-point.ensures {u = tt}).reply in
@@ -65,8 +59,8 @@ returns-in-Refuted-clause-region c = c.solve_key.ensures.region ∙ c.loop-s.inv
 pub returns-in_err-push-in-Spent-clause-region : goal.returns-in_err-push-in-Spent-clause-region
 returns-in_err-push-in-Spent-clause-region c = c.solve_key.ensures.region ∙ c.loop-s.invariant.region
 
-pub overflow_cast-s : goal.overflow_cast-s
-overflow_cast-s c = omega (arith, c.loop-s-test.true, zip_length _ _ _ c.requires.keyed.each, few_classes c.args.query.now c.requires.keyed.are.classes c.vars.ensures.fits c.requires.keyed.are.linked)
+pub overflow_cast-number : goal.overflow_cast-number
+overflow_cast-number c = omega (arith, c.loop-s-test.true, zip_length _ _ _ c.requires.keyed.each, few_classes c.args.query.now c.requires.keyed.are.classes c.vars.ensures.fits c.requires.keyed.are.linked)
 
 pub loop-s-preserved : goal.loop-s-preserved
 loop-s-preserved c =
@@ -79,16 +73,16 @@ loop-s-preserved c =
     record {
       asked = elim c.match-branch-3.branch [
         | in-Model+in_ok-push-in-Model w ↦
-          let model : IsModelOf c.index-keys-s.result.key w.in-Model.point.items = subst (Replies c.args.budget c.index-keys-s.result.key) w.in-Model.is reply in
-          let old : w.deref_mut.result.now ≡ c.loop-s.values.items = w.deref_mut.ensures.value in
-          let same : w.deref.result.now ≡ w.in-Model.point.items = w.deref.ensures.0 in
-          let long : length w.place.new.values ≡ length c.loop-s.values.items = w.place.ensures.length ∙ ap length old in
-          let placed : (v : ℕ) → v < length c.index-keys-s.result.back → value_at w.place.new.values (slice_index c.index-keys-s.result.back v) ≡ value_at w.in-Model.point.items v = λ v lt. w.place.ensures.placed v lt ∙ ap (λ (xs : List ℤ). value_at xs v) same in
-          let kept : (n : ℕ) → (Contains c.index-keys-s.result.back n → ⊥) → value_at w.place.new.values n ≡ value_at c.loop-s.values.items n = λ n absent. w.place.ensures.others n absent ∙ ap (λ (xs : List ℤ). value_at xs n) old in
-          asked_as c.args.budget c.args.query.now _ _ _ _ _ _ _ _ (ask_model c.args.budget c.args.query.now (take c.loop-s.s c.args.keys.now) c.loop-s.parts c.loop-s.open c.loop-s.values.items w.place.new.values c.index-keys-s.result w.in-Model.point.items c.loop-s.invariant.asked apart model here.width long placed kept) more (w.parts-is ∙ (w.in_ok-push-in-Model.ensures {u = tt}).ok) w.open-is (ap (λ (v : Vec ℤ Global). v.items) w.values-is ∙ refilled c.loop-s.values w.place.new.values long)
+            let model : IsModelOf c.index-keys-s.result.key w.in-Model.point.items = subst (Replies c.args.budget c.index-keys-s.result.key) w.in-Model.is reply in
+            let old : w.deref_mut.result.now ≡ c.loop-s.values.items = w.deref_mut.ensures.value in
+            let same : w.deref.result.now ≡ w.in-Model.point.items = w.deref.ensures.0 in
+            let long : length w.place.new.values ≡ length c.loop-s.values.items = w.place.ensures.length ∙ ap length old in
+            let placed : (v : ℕ) → v < length c.index-keys-s.result.back → value_at w.place.new.values (slice_index c.index-keys-s.result.back v) ≡ value_at w.in-Model.point.items v = λ v lt. w.place.ensures.placed v lt ∙ ap (λ (xs : List ℤ). value_at xs v) same in
+            let kept : (n : ℕ) → (Contains c.index-keys-s.result.back n → ⊥) → value_at w.place.new.values n ≡ value_at c.loop-s.values.items n = λ n absent. w.place.ensures.others n absent ∙ ap (λ (xs : List ℤ). value_at xs n) old in
+            asked_as c.args.budget c.args.query.now _ _ _ _ _ _ _ _ (ask_model c.args.budget c.args.query.now (take c.loop-s.s c.args.keys.now) c.loop-s.parts c.loop-s.open c.loop-s.values.items w.place.new.values c.index-keys-s.result w.in-Model.point.items c.loop-s.invariant.asked apart model here.width long placed kept) more (w.parts-is ∙ (w.in_ok-push-in-Model.ensures {u = tt}).ok) w.open-is (ap (λ (v : Vec ℤ Global). v.items) w.values-is ∙ refilled c.loop-s.values w.place.new.values long)
         | in-Spent+in_ok-push-in-Spent w ↦
-          let spent : IsSpentOn c.args.budget c.index-keys-s.result.key w.in-Spent.tree = subst (Replies c.args.budget c.index-keys-s.result.key) w.in-Spent.is reply in
-          asked_as c.args.budget c.args.query.now _ _ _ _ _ _ _ _ (ask_open c.args.budget c.args.query.now (take c.loop-s.s c.args.keys.now) c.loop-s.parts c.loop-s.open c.loop-s.values.items c.index-keys-s.result w.in-Spent.tree c.loop-s.s c.loop-s.invariant.asked spent (sym front_long)) more (w.parts-is ∙ (w.in_ok-push-in-Spent.ensures {u = tt}).ok) (w.open-is ∙ ap Some w.unwrap_or.ensures) (ap (λ (v : Vec ℤ Global). v.items) w.values-is)
+            let spent : IsSpentOn c.args.budget c.index-keys-s.result.key w.in-Spent.tree = subst (Replies c.args.budget c.index-keys-s.result.key) w.in-Spent.is reply in
+            asked_as c.args.budget c.args.query.now _ _ _ _ _ _ _ _ (ask_open c.args.budget c.args.query.now (take c.loop-s.s c.args.keys.now) c.loop-s.parts c.loop-s.open c.loop-s.values.items c.index-keys-s.result w.in-Spent.tree c.loop-s.s c.loop-s.invariant.asked spent (sym front_long)) more (w.parts-is ∙ (w.in_ok-push-in-Spent.ensures {u = tt}).ok) (w.open-is ∙ ap Some w.unwrap_or.ensures) (ap (λ (v : Vec ℤ Global). v.items) w.values-is)
       ];
       region = c.solve_key.ensures.region ∙ c.loop-s.invariant.region;
     }

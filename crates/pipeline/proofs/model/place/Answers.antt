@@ -1,5 +1,5 @@
 use Rattle.std.proofs.Common.{◌≡◌, ℕ, ◌+◌, ◌<◌, ℤ, pos, List, length, get_or, set, arith, refl, rules, w64, subst, sym, ap, ◌∙◌}
-use Rattle.std.specs.List.{Contains, slice_index}
+use Rattle.std.specs.List.{slice_index}
 use Rattle.std.proofs.lemmas.Int.{to_z-of_z}
 use mir.Val.{SFits}
 use Rattle.lin_model.specs.Terms.{value_at}

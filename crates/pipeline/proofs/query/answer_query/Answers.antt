@@ -1,4 +1,4 @@
-use Rattle.std.proofs.Common.{◌≡◌, subst}
+use Rattle.std.proofs.Common.{subst}
 use Rattle.pipeline.specs.Keyed.{IsKeyedQuery, IsImpossible}
 use Rattle.pipeline.proofs.VerdictLemmas.{right_unsat_atom}
 use Rattle.pipeline.proofs.query.answer_query.Goals as goal

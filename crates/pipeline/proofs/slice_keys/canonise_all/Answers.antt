@@ -1,8 +1,7 @@
-use Rattle.std.proofs.Common.{◌≡◌, ◌+◌, ◌++◌, [], ◌∷◌, take, length, List, subst, sym}
+use Rattle.std.proofs.Common.{◌++◌, [], ◌∷◌, take, List, subst, sym}
 use Rattle.std.specs.List.{AllZip}
 use Rattle.std.proofs.lemmas.List.{take_all}
 use Rattle.slicer.specs.Slices.{PlainSlice}
-use Rattle.canoniser.specs.declared.canonical.Canonical.{Canonical}
 use Rattle.canoniser.specs.Answers.{Canonises}
 use Rattle.pipeline.proofs.KeyedLemmas.{zip_push, front_more}
 use Rattle.pipeline.proofs.slice_keys.canonise_all.Goals as goal

@@ -1,10 +1,9 @@
-use Rattle.std.proofs.Common.{◌≡◌, List, subst, sym}
+use Rattle.std.proofs.Common.{List, subst, sym}
 use Rattle.std.specs.List.{All, AllZip}
 use Rattle.slicer.specs.Slices.{PlainSlice}
 use Rattle.canoniser.specs.declared.canonical.Canonical.{Canonical}
 use Rattle.canoniser.specs.Answers.{Canonises}
-use Rattle.pipeline.specs.declared.slice_keys.SliceKey.{SliceKey}
-use Rattle.pipeline.specs.Keyed.{HasKey, IsLeastFalse, AreKeyed, keys_in}
+use Rattle.pipeline.specs.Keyed.{HasKey, IsLeastFalse, AreKeyed}
 use Rattle.pipeline.proofs.SliceLemmas.{least_is_never, keys_are_keyed}
 use Rattle.pipeline.proofs.slice_keys.keys_of.Goals as goal
 

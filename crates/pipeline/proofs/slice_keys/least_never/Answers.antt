@@ -1,4 +1,4 @@
-use Rattle.std.proofs.Common.{◌≡◌, ℕ, ◌+◌, Option, List, take, subst, sym, arith}
+use Rattle.std.proofs.Common.{◌+◌, List, take, subst, sym, arith}
 use Rattle.std.proofs.lemmas.List.{take_all}
 use Rattle.canoniser.specs.declared.canonical.Canonical.{Canonical}
 use Rattle.pipeline.proofs.KeyedLemmas.{IsLeastSoFar, least_more}

@@ -1,4 +1,4 @@
-use Rattle.std.proofs.Common.{◌≡◌, List, [], ◌∷◌, ◌++◌, ap, sym, ◌∙◌}
+use Rattle.std.proofs.Common.{List, [], ◌∷◌, ◌++◌, ap, sym, ◌∙◌}
 use Rattle.pipeline.specs.declared.slice_keys.SliceKey.{SliceKey}
 use Rattle.pipeline.specs.Keyed.{keys_in}
 use Rattle.pipeline.proofs.KeyedLemmas.{keys_in-push}

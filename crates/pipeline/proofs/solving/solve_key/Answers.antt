@@ -1,5 +1,4 @@
-use Rattle.std.proofs.Common.{◌≡◌, List, drop, length, ap, sym, ◌∙◌}
-use Rattle.pipeline.specs.Answers.{Replies, reply_to}
+use Rattle.pipeline.specs.Answers.{Replies}
 use Rattle.pipeline.proofs.ReplyLemmas.{on_reply, reply-says}
 use Rattle.pipeline.proofs.solving.solve_key.Goals as goal
 
