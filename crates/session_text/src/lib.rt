@@ -1,0 +1,7 @@
+//! The texts of whole sessions: how they are spelled, read and written.
+#![tactic(auto)]
+
+mod class;
+mod line;
+mod refusal;
+
