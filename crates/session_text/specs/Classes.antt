@@ -1,11 +1,14 @@
 -- What the reader sees of a token, and how it refuses one.
 use Rattle.std.specs.Prelude.{ℕ, ◌==◌, List, bytes_eq, if◌then◌else◌}
+use Rattle.lin_text.specs.declared.fault.TextKind.{TextKind}
+use Rattle.lin_text.specs.declared.fault.TextKind.TheVariants as texts
 use Rattle.lin_text.specs.declared.fault.SessionKind.{SessionKind}
 use Rattle.lin_text.specs.declared.fault.SessionKind.TheVariants as kinds
 use Rattle.lin_text.specs.Pieces.{Piece, word, bad, line_end}
 use Rattle.session_text.specs.declared.class.Class.{Class}
 use Rattle.session_text.specs.declared.class.Class.TheVariants.{Executor, Query, End, Other, Bad, LineEnd}
 use Rattle.session_text.specs.Words.{executor_word, query_word, end_word}
+use Rattle.session_text.specs.Faults.{session_kind}
 
 abbrev pub class_of_word : List ℕ → Class
 class_of_word w = if bytes_eq w executor_word then Executor else (if bytes_eq w query_word then Query else (if bytes_eq w end_word then End else Other))
@@ -22,3 +25,8 @@ refusal_kind Executor executors queries = if executors == 64 then kinds.TooManyE
 refusal_kind Query executors queries = if queries == 100000 then kinds.TooManyQueries else kinds.Syntax
 refusal_kind Bad executors queries = kinds.Token
 refusal_kind _ executors queries = kinds.Syntax
+
+-- the kind of a fault in a query's text, at a token of this class: where the token can't come, it may be the word that comes once too often
+abbrev pub query_refusal : TextKind → Class → ℕ → ℕ → SessionKind
+query_refusal texts.Syntax class executors queries = refusal_kind class executors queries
+query_refusal kind class executors queries = session_kind kind

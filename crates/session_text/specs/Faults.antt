@@ -37,9 +37,9 @@ abbrev pub first_word : List Piece → List ℕ
 first_word (word w ∷ ps) = w
 first_word _ = []
 
--- the part below a line that begins with a word
-abbrev pub part_of_word : Part → List ℕ → Part
-part_of_word part w = if bytes_eq w executor_word then executor else (if bytes_eq w query_word then query [] else (if bytes_eq w end_word then ended else part))
+-- the part below a line that begins with a word; nothing may come below the end line, nor below another word, at which a fault stands
+abbrev pub part_of_word : List ℕ → Part
+part_of_word w = if bytes_eq w executor_word then executor else (if bytes_eq w query_word then query [] else ended)
 
 -- the part below another line
 abbrev pub part_with : Part → PlainLine → Part
@@ -47,7 +47,7 @@ part_with (query above) line = query (above ++ line ∷ [])
 part_with part line = part
 
 abbrev pub part_below : Part → PlainLine → Part
-part_below part line = if begins_word (pieces line.tokens) then part_of_word part (first_word (pieces line.tokens)) else part_with part line
+part_below part line = if begins_word (pieces line.tokens) then part_of_word (first_word (pieces line.tokens)) else part_with part line
 
 -- what was seen above the line below
 abbrev pub seen_below : Seen → PlainLine → Seen

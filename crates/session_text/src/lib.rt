@@ -2,6 +2,7 @@
 #![tactic(auto)]
 
 mod class;
+mod laws;
 mod line;
 mod refusal;
 

@@ -10,7 +10,7 @@ pub returns-then-not-has_text : goal.returns-then-not-has_text
 unfolding green_word
 returns-then-not-has_text c = (
   λ t. absurd (false≢true t),
-  λ h. false≢true (sym c.if-not-has_text.true ∙ c.has_text.ensures ∙ bytes_eq-is _ _ (text-same c.args.bytes.now c.args.at c.next_token-green.result c.next_token-green.ensures.token ∙ h.green)),
+  λ h. sym c.if-not-has_text.true ∙ (c.has_text.ensures ∙ bytes_eq-is _ _ (text-same c.args.bytes.now c.args.at c.next_token-green.result c.next_token-green.ensures.token ∙ h.green)),
 )
 
 pub returns-then-not-has_text-2 : goal.returns-then-not-has_text-2
@@ -20,7 +20,7 @@ returns-then-not-has_text-2 c =
     let text = text-same c.args.bytes.now c.next_token-green.result.to c.next_token-one.result c.next_token-one.ensures.token in
     let same : text_of c.args.bytes.now (token_at c.args.bytes.now c.next_token-green.result.to) ≡ text_of c.args.bytes.now (second_at c.args.bytes.now c.args.at) = ap (λ (n : ℕ). text_of c.args.bytes.now (token_at c.args.bytes.now n)) to in (
       λ t. absurd (false≢true t),
-      λ h. false≢true (sym c.if-not-has_text-2.true ∙ c.has_text-2.ensures ∙ bytes_eq-is _ _ (text ∙ same ∙ h.one)),
+      λ h. sym c.if-not-has_text-2.true ∙ (c.has_text-2.ensures ∙ bytes_eq-is _ _ (text ∙ same ∙ h.one)),
     )
 
 pub returns : goal.returns
