@@ -6,3 +6,4 @@ pub mod QueryFaults
 pub mod ReadFaults
 pub mod WordLines
 pub mod Wholes
+pub mod Steps

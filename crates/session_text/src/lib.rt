@@ -4,5 +4,6 @@
 mod class;
 mod laws;
 mod line;
+mod query;
 mod refusal;
 

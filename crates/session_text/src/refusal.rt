@@ -1,5 +1,5 @@
 //! How the reader refuses: the kind of the fault and its place among the bytes, or want of memory.
-ghost use Rattle.std.specs.Prelude.{◌≡◌};
+ghost use Rattle.std.specs.Prelude.{◌≡◌, ◌+◌, ◌<◌, ◌^◌};
 ghost use Rattle.session_text.specs.Faults.{session_kind};
 ghost use Rattle.session_text.specs.Classes.{refusal_kind};
 
@@ -58,6 +58,30 @@ impl From<Fault> for ReadError {
 pub struct Counts {
     pub executors: usize,
     pub queries: usize,
+}
+
+impl Counts {
+    /// With one word `executor` more.
+    pub fn with_executor(self) -> Counts
+        requires { self.executors < 2 ^ 63 }
+        ensures { result ≡ record self { executors = self.executors + 1 } }
+    {
+        Counts {
+            executors: self.executors + 1,
+            queries: self.queries,
+        }
+    }
+
+    /// With one word `query` more.
+    pub fn with_query(self) -> Counts
+        requires { self.queries < 2 ^ 63 }
+        ensures { result ≡ record self { queries = self.queries + 1 } }
+    {
+        Counts {
+            executors: self.executors,
+            queries: self.queries + 1,
+        }
+    }
 }
 
 /// The fault of this kind at a place.
