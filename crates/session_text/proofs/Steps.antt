@@ -14,15 +14,16 @@ use Rattle.session_text.specs.declared.refusal.ReadError.TheVariants as errors
 use Rattle.session_text.specs.Words.{executor_word, query_word, end_word, token_at, second_at, IsWordLine}
 use Rattle.session_text.specs.Sessions.{IsQuery, AreQueries, IsExecutor, AreExecutors}
 use Rattle.session_text.specs.Classes.{class_of, refusal_kind}
-use Rattle.session_text.specs.Faults.{Seen}
-use Rattle.session_text.specs.Reading.{HasFaultFrom, IsReadError, part_after}
+use Rattle.session_text.specs.Faults.{Seen, executor}
+use Rattle.session_text.specs.declared.refusal.Counts.{Counts}
+use Rattle.session_text.specs.Reading.{HasFaultFrom, IsReadError, seen_with}
 use Rattle.session_text.proofs.WordLemmas.{executor_not_query, executor_not_end, query_not_end}
 use Rattle.session_text.proofs.FirstFaults.{Leads}
 use Rattle.session_text.proofs.QueryFaults.{asked, Cut, cut, are_rest}
 use Rattle.session_text.proofs.WordLines.{between, between-no_query, between-executor, between-end, begins_before_end}
 use Rattle.session_text.proofs.Wholes.{second_refused}
 
-IsReadError-back : (bytes : List ℕ) (s t : Seen) (at to : ℕ) (e : ReadError) → Leads bytes s at t to → IsReadError t bytes to e → IsReadError s bytes at e
+pub IsReadError-back : (bytes : List ℕ) (s t : Seen) (at to : ℕ) (e : ReadError) → Leads bytes s at t to → IsReadError t bytes to e → IsReadError s bytes at e
 IsReadError-back bytes s t at to errors.Memory l h = tt
 IsReadError-back bytes s t at to (errors.Fault f) l h = l.back f.kind f.at h
 
@@ -103,3 +104,7 @@ AreQueries-ahead bytes at (q ∷ qs) stop are = omega (arith, (IsQuery-ahead byt
 pub IsExecutor-ahead : (bytes : List ℕ) (at : ℕ) (qs : List PlainCondition) (stop : ℕ) → IsExecutor bytes at qs stop → at < stop
 IsExecutor-ahead bytes at qs stop is =
     omega (arith, (IsWordLine-ahead executor_word bytes at is.below is.line).0, AreQueries-ahead bytes is.below qs stop is.asked)
+
+-- what was counted, as it is seen
+pub asked-is : (counts so_far : Counts) (k : ℕ) → so_far.executors ≡ counts.executors → so_far.queries ≡ counts.queries + k → asked counts.executors (counts.queries + k) ≡ seen_with executor so_far
+asked-is counts so_far k e n = ap (λ (m : ℕ). asked m (counts.queries + k)) (sym e) ∙ ap (λ (m : ℕ). asked so_far.executors m) (sym n)

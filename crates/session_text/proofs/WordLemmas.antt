@@ -1,5 +1,5 @@
 -- The words of a session, and what a token is.
-use Rattle.std.proofs.Common.{◌≡◌, ℕ, Bool, true, false, cond, List, [], ◌∷◌, refl, sym, ap, subst, ◌∙◌, get_or, arith}
+use Rattle.std.proofs.Common.{◌≡◌, ℕ, Bool, true, false, cond, List, [], ◌∷◌, refl, sym, ap, subst, ◌∙◌, get_or, arith, inl, inr, ◌⊎◌}
 use Rattle.std.specs.Prelude.{bytes_eq, codes}
 use Rattle.std.proofs.lemmas.Slice.Eq.{bytes_eq-Decides}
 use Rattle.std.proofs.lemmas.Bool.{false≢true}
@@ -83,3 +83,54 @@ unfolding symbol_piece
 class_of-symbol_piece text = by_signs (bytes_eq text (codes "+")) (bytes_eq text (codes "-")) (bytes_eq text (codes "*")) text
 
 pub ruleset class_of_others = (class_of-symbol_piece)
+
+-- the words, by class
+
+by_word : (w : List ℕ) (c : Class) → class_of_word w ≡ c → ((w ≡ executor_word) × (c ≡ Executor)) ⊎ ((w ≡ query_word) × (c ≡ Query)) ⊎ ((w ≡ end_word) × (c ≡ End)) ⊎ (c ≡ Other)
+by_word w c h =
+    elim (bytes_eq w executor_word) as (λ b. bytes_eq w executor_word ≡ b → cond b Executor (cond (bytes_eq w query_word) Query (cond (bytes_eq w end_word) End Other)) ≡ c → ((w ≡ executor_word) × (c ≡ Executor)) ⊎ ((w ≡ query_word) × (c ≡ Query)) ⊎ ((w ≡ end_word) × (c ≡ End)) ⊎ (c ≡ Other)) [
+      | true ↦ λ e k. inl (same_bytes w executor_word e, sym k)
+      | false ↦ λ e k. elim (bytes_eq w query_word) as (λ b. bytes_eq w query_word ≡ b → cond b Query (cond (bytes_eq w end_word) End Other) ≡ c → ((w ≡ executor_word) × (c ≡ Executor)) ⊎ ((w ≡ query_word) × (c ≡ Query)) ⊎ ((w ≡ end_word) × (c ≡ End)) ⊎ (c ≡ Other)) [
+        | true ↦ λ q j. inr (inl (same_bytes w query_word q, sym j))
+        | false ↦ λ q j. elim (bytes_eq w end_word) as (λ b. bytes_eq w end_word ≡ b → cond b End Other ≡ c → ((w ≡ executor_word) × (c ≡ Executor)) ⊎ ((w ≡ query_word) × (c ≡ Query)) ⊎ ((w ≡ end_word) × (c ≡ End)) ⊎ (c ≡ Other)) [
+          | true ↦ λ d i. inr (inr (inl (same_bytes w end_word d, sym i)))
+          | false ↦ λ d i. inr (inr (inr (sym i)))
+        ] refl j
+      ] refl k
+    ] refl h
+
+pub class-executor : (p : Piece) → class_of p ≡ Executor → p ≡ word executor_word
+class-executor (word w) h =
+    elim (by_word w Executor h) [
+      | inl e ↦ ap word e.0
+      | inr a ↦ elim a [ inl e ↦ absurd (let no = e.1 in cc) | inr b ↦ elim b [ inl e ↦ absurd (let no = e.1 in cc) | inr e ↦ absurd (cc) ] ]
+    ]
+class-executor _ h = absurd (cc)
+
+pub class-query : (p : Piece) → class_of p ≡ Query → p ≡ word query_word
+class-query (word w) h =
+    elim (by_word w Query h) [
+      | inl e ↦ absurd (let no = e.1 in cc)
+      | inr a ↦ elim a [ inl e ↦ ap word e.0 | inr b ↦ elim b [ inl e ↦ absurd (let no = e.1 in cc) | inr e ↦ absurd (cc) ] ]
+    ]
+class-query _ h = absurd (cc)
+
+pub class-end : (p : Piece) → class_of p ≡ End → p ≡ word end_word
+class-end (word w) h =
+    elim (by_word w End h) [
+      | inl e ↦ absurd (let no = e.1 in cc)
+      | inr a ↦ elim a [ inl e ↦ absurd (let no = e.1 in cc) | inr b ↦ elim b [ inl e ↦ ap word e.0 | inr e ↦ absurd (cc) ] ]
+    ]
+class-end _ h = absurd (cc)
+
+pub executor-class : (p : Piece) → p ≡ word executor_word → class_of p ≡ Executor
+unfolding executor_word query_word end_word
+executor-class p h = ap class_of h
+
+pub query-class : (p : Piece) → p ≡ word query_word → class_of p ≡ Query
+unfolding executor_word query_word end_word
+query-class p h = ap class_of h
+
+pub end-class : (p : Piece) → p ≡ word end_word → class_of p ≡ End
+unfolding executor_word query_word end_word
+end-class p h = ap class_of h

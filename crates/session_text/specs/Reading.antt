@@ -5,7 +5,7 @@ use Rattle.lin_text.specs.Pieces.{PlainLine, AreLines}
 use Rattle.session_text.specs.declared.refusal.Counts.{Counts}
 use Rattle.session_text.specs.declared.refusal.ReadError.{ReadError}
 use Rattle.session_text.specs.declared.refusal.ReadError.TheVariants as errors
-use Rattle.session_text.specs.Faults.{Part, header, executor, Seen, StandsIn, IsFirst}
+use Rattle.session_text.specs.Faults.{Part, header, executor, Seen, StandsIn, IsFirst, HasFault}
 
 -- the fault of the lines from a place on, above which so much was seen
 pub record HasFaultFrom (seen : Seen) (bytes : List ℕ) (at : ℕ) (kind : SessionKind) (place : ℕ) : Type 0 where
@@ -25,3 +25,8 @@ seen_with part counts = record { part = part; executors = counts.executors; quer
 -- what came last above a line that neither belongs to a query nor comes behind the end line
 abbrev pub part_after : ℕ → Part
 part_after executors = if executors == 0 then header else executor
+
+-- memory ran out, or it is the fault of the whole text
+abbrev pub IsSessionError : List ℕ → ReadError → Type 0
+IsSessionError bytes errors.Memory = Unit {0}
+IsSessionError bytes (errors.Fault f) = HasFault bytes f.kind f.at

@@ -6,4 +6,7 @@ mod laws;
 mod line;
 mod query;
 mod refusal;
+mod session;
+
+pub use session::read_session;
 

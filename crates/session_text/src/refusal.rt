@@ -72,6 +72,18 @@ impl Counts {
         }
     }
 
+    /// With one word `executor` more, and the queries of its executor.
+    pub fn with_script(self, queries: usize) -> Counts
+        requires executors { self.executors < 2 ^ 63 }
+        requires queries { self.queries + queries < 2 ^ 63 }
+        ensures { result ≡ record { executors = self.executors + 1; queries = self.queries + queries } }
+    {
+        Counts {
+            executors: self.executors + 1,
+            queries: self.queries + queries,
+        }
+    }
+
     /// With one word `query` more.
     pub fn with_query(self) -> Counts
         requires { self.queries < 2 ^ 63 }
