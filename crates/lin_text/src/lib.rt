@@ -31,4 +31,4 @@ pub use query::{read_lines, read_query};
 pub use refusal::{Fault, ReadError};
 pub use small::read_small;
 pub use token::{Token, TokenKind, next_token};
-pub use write::write_query;
+pub use write::{push_query, write_query};

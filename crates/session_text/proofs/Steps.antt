@@ -1,27 +1,28 @@
 -- The steps of the reader: a fault that is handed on, and one that is found.
-use Rattle.std.proofs.Common.{◌≡◌, ℕ, ◌+◌, ◌<◌, ◌≤◌, Bool, true, false, List, [], ◌∷◌, ◌++◌, length, drop, refl, sym, ap, subst, ◌∙◌, arith, inl, inr}
-use Rattle.std.specs.Prelude.{Result, Ok, Err, IfErr, IsErrAnd}
+use Rattle.std.proofs.Common.{◌≡◌, ℕ, ◌+◌, ◌<◌, ◌≤◌, Bool, true, false, cond, List, [], ◌∷◌, ◌++◌, length, drop, refl, sym, ap, subst, ◌∙◌, arith, inl, inr, ◌⊎◌}
+use Rattle.std.specs.Prelude.{Result, Ok, Err, IfErr, IsErrAnd, sum_by}
+use Rattle.std.proofs.lemmas.Bool.Decides.{eqb_tells}
 use Rattle.lin_model.specs.Conditions.{PlainCondition}
 use Rattle.lin_text.specs.declared.fault.SessionKind.{SessionKind}
 use Rattle.lin_text.specs.declared.fault.SessionKind.TheVariants as kinds
 use Rattle.lin_text.specs.Lines.{line_from, line_below}
-use Rattle.lin_text.specs.Pieces.{word, line_end, PlainLine, AreLines}
+use Rattle.lin_text.specs.Pieces.{Piece, word, line_end, PlainLine, AreLines}
 use Rattle.lin_text.specs.Queries.{Spells, start_of}
 use Rattle.lin_text.proofs.Positions.{first_line-bounds, lines-behind}
 use Rattle.session_text.specs.declared.refusal.Fault.{Fault}
 use Rattle.session_text.specs.declared.refusal.ReadError.{ReadError}
 use Rattle.session_text.specs.declared.refusal.ReadError.TheVariants as errors
-use Rattle.session_text.specs.Words.{executor_word, query_word, end_word, token_at, second_at, IsWordLine}
-use Rattle.session_text.specs.Sessions.{IsQuery, AreQueries, IsExecutor, AreExecutors}
+use Rattle.session_text.specs.Words.{executor_word, query_word, end_word, token_at, second_at, IsHeader, IsWordLine}
+use Rattle.session_text.specs.Sessions.{IsQuery, AreQueries, IsExecutor, AreExecutors, body_of}
 use Rattle.session_text.specs.Classes.{class_of, refusal_kind}
-use Rattle.session_text.specs.Faults.{Seen, executor}
+use Rattle.session_text.specs.Faults.{Seen, header, executor, nothing_seen, MayBegin, CanCome, HasFault}
 use Rattle.session_text.specs.declared.refusal.Counts.{Counts}
-use Rattle.session_text.specs.Reading.{HasFaultFrom, IsReadError, seen_with}
+use Rattle.session_text.specs.Reading.{HasFaultFrom, IsReadError, IsSessionError, seen_with, part_after}
 use Rattle.session_text.proofs.WordLemmas.{executor_not_query, executor_not_end, query_not_end}
 use Rattle.session_text.proofs.FirstFaults.{Leads}
 use Rattle.session_text.proofs.QueryFaults.{asked, Cut, cut, are_rest}
 use Rattle.session_text.proofs.WordLines.{between, between-no_query, between-executor, between-end, begins_before_end}
-use Rattle.session_text.proofs.Wholes.{second_refused}
+use Rattle.session_text.proofs.Wholes.{second_refused, whole_fault}
 
 pub IsReadError-back : (bytes : List ℕ) (s t : Seen) (at to : ℕ) (e : ReadError) → Leads bytes s at t to → IsReadError t bytes to e → IsReadError s bytes at e
 IsReadError-back bytes s t at to errors.Memory l h = tt
@@ -101,10 +102,61 @@ pub AreQueries-ahead : (bytes : List ℕ) (at : ℕ) (qs : List PlainCondition) 
 AreQueries-ahead bytes at [] stop are = omega (arith, are)
 AreQueries-ahead bytes at (q ∷ qs) stop are = omega (arith, (IsQuery-ahead bytes at q are.0 are.1).0, AreQueries-ahead bytes are.0 qs stop are.2)
 
-pub IsExecutor-ahead : (bytes : List ℕ) (at : ℕ) (qs : List PlainCondition) (stop : ℕ) → IsExecutor bytes at qs stop → at < stop
+pub IsExecutor-ahead : (bytes : List ℕ) (at : ℕ) (qs : List PlainCondition) (stop : ℕ) → IsExecutor bytes at qs stop → (at < stop) × (at < length bytes)
 IsExecutor-ahead bytes at qs stop is =
-    omega (arith, (IsWordLine-ahead executor_word bytes at is.below is.line).0, AreQueries-ahead bytes is.below qs stop is.asked)
+    let w = IsWordLine-ahead executor_word bytes at is.below is.line in
+    (omega (arith, w.0, AreQueries-ahead bytes is.below qs stop is.asked), omega (arith, w.0, w.1))
 
 -- what was counted, as it is seen
 pub asked-is : (counts so_far : Counts) (k : ℕ) → so_far.executors ≡ counts.executors → so_far.queries ≡ counts.queries + k → asked counts.executors (counts.queries + k) ≡ seen_with executor so_far
 asked-is counts so_far k e n = ap (λ (m : ℕ). asked m (counts.queries + k)) (sym e) ∙ ap (λ (m : ℕ). asked so_far.executors m) (sym n)
+
+first_is : (p : Piece) (w : List ℕ) (more : List Piece) → word w ∷ line_end ∷ [] ≡ (p ∷ []) ++ more → p ≡ word w
+first_is p w more e = cc
+
+pub between-is : (counts : Counts) (es : List (List PlainCondition)) → counts.executors ≡ length es → counts.queries ≡ sum_by length es → between (0 + length es) (0 + sum_by length es) ≡ seen_with (part_after counts.executors) counts
+between-is counts es e n =
+    ap (λ (m : ℕ). between m (0 + sum_by length es)) (let same : 0 + length es ≡ counts.executors = omega (arith, e) in same)
+    ∙ ap (λ (m : ℕ). between counts.executors m) (let same : 0 + sum_by length es ≡ counts.queries = omega (arith, n) in same)
+
+-- a line that begins with none of the words that may come
+pub cant_begin : (e : ℕ) (p : Piece) → (p ≡ word executor_word → ⊥) → (p ≡ word query_word → e ≡ 0) → (p ≡ word end_word → ⊥) → ¬ CanCome (part_after e) (p ∷ [])
+cant_begin e p no_executor no_query no_end x =
+    elim (eqb_tells e 0) [
+      | inl none ↦ at_header (subst (λ (b : Bool). MayBegin (cond b header executor) x.w) none.0 x.may)
+      | inr some ↦ at_executor some.1 (subst (λ (b : Bool). MayBegin (cond b header executor) x.w) some.0 x.may)
+    ]
+  where
+    is : p ≡ word x.w
+    is = first_is p x.w x.more x.written
+
+    at_header : (x.w ≡ executor_word) ⊎ (x.w ≡ end_word) → ⊥
+    at_header (inl w) = no_executor (is ∙ ap word w)
+    at_header (inr w) = no_end (is ∙ ap word w)
+
+    at_executor : (e ≡ 0 → ⊥) → (x.w ≡ executor_word) ⊎ (x.w ≡ query_word) ⊎ (x.w ≡ end_word) → ⊥
+    at_executor some (inl w) = no_executor (is ∙ ap word w)
+    at_executor some (inr (inl w)) = some (no_query (is ∙ ap word w))
+    at_executor some (inr (inr w)) = no_end (is ∙ ap word w)
+
+-- a fault that is handed on, where nothing takes memory
+
+abbrev pub IsFaultFrom : Seen → List ℕ → ℕ → Fault → Type 0
+IsFaultFrom s bytes at f = HasFaultFrom s bytes at f.kind f.at
+
+pub fault_up : {X : Type 0} (r : Result X Fault) (f : Fault) (bytes : List ℕ) (s : Seen) (at : ℕ) → IsErrAnd r (λ x. x ≡ f) → IsFaultFrom s bytes at f → IfErr r (IsFaultFrom s bytes at)
+fault_up (Ok x) f bytes s at is h = tt
+fault_up (Err x) f bytes s at is h = subst (λ (y : Fault). IsFaultFrom s bytes at y) (sym is) h
+
+pub fault_on : {X : Type 0} (r : Result X Fault) (bytes : List ℕ) (s t : Seen) (at to : ℕ) → Leads bytes s at t to → IfErr r (IsFaultFrom t bytes to) → IfErr r (IsFaultFrom s bytes at)
+fault_on (Ok x) bytes s t at to l h = tt
+fault_on (Err f) bytes s t at to l h = l.back f.kind f.at h
+
+-- a fault behind the header is one of the whole text
+pub whole_error : (bytes : List ℕ) (at : ℕ) (e : ReadError) → IsHeader bytes (line_from bytes 0) → at ≡ body_of bytes → IsReadError nothing_seen bytes at e → IsSessionError bytes e
+whole_error bytes at errors.Memory header_is is h = tt
+whole_error bytes at (errors.Fault f) header_is is h = whole_fault bytes header_is f.kind f.at (subst (λ (m : ℕ). HasFaultFrom nothing_seen bytes m f.kind f.at) is h)
+
+pub whole_up : {X : Type 0} (r : Result X ReadError) (e : ReadError) (bytes : List ℕ) → IsErrAnd r (λ x. x ≡ e) → IsSessionError bytes e → IfErr r (IsSessionError bytes)
+whole_up (Ok x) e bytes is h = tt
+whole_up (Err x) e bytes is h = subst (λ (y : ReadError). IsSessionError bytes y) (sym is) h

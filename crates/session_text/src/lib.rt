@@ -7,6 +7,8 @@ mod line;
 mod query;
 mod refusal;
 mod session;
+mod write;
 
 pub use session::read_session;
+pub use write::write_session;
 

@@ -1,5 +1,5 @@
 //! Reading whole sessions.
-ghost use Rattle.std.specs.Prelude.{◌≡◌, ◌≢◌, ◌≤◌, ◌+◌, length, sum_by, IfOk, IfErr, OnOk};
+ghost use Rattle.std.specs.Prelude.{◌≡◌, ◌≢◌, ◌≤◌, ◌+◌, ◌↔◌, length, sum_by, IsTrue, IfOk, IfErr, OnOk};
 ghost use Rattle.lin_model.specs.Conditions.{IsSession};
 ghost use Rattle.lin_text.specs.Lines.{StartsLine, line_from};
 ghost use Rattle.lin_text.specs.Pieces.{word};
@@ -90,6 +90,13 @@ fn read_executors(alloc: Global, bytes: &[u8], start: usize) -> Result<Executors
     })
 }
 
+/// Whether the token is the word `end`.
+fn is_end(class: Class) -> bool
+    ensures { IsTrue result ↔ class ≡ Class.End }
+{
+    matches!(class, Class::End)
+}
+
 /// Reads the end line, which is the first one from `at` on that isn't skipped, and what is left of the
 /// input. The words came so often above it.
 fn read_end(bytes: &[u8], at: usize, counts: Counts) -> Result<(), Fault>
@@ -103,7 +110,7 @@ fn read_end(bytes: &[u8], at: usize, counts: Counts) -> Result<(), Fault>
     if line.start == bytes.len() {
         return Err(fault_at(SessionKind::NoEnd, bytes.len()));
     }
-    if line.first.class != Class::End {
+    if !is_end(line.first.class) {
         return Err(refusal(line.first, counts));
     }
     let below = below_word(bytes, line, counts)?;

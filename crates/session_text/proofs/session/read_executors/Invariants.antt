@@ -7,8 +7,8 @@ use Rattle.session_text.specs.Sessions.{AreExecutors}
 use Rattle.session_text.proofs.session.read_executors.Given as goal
 
 -- the executors before the place were read
-abbrev pub invariant-loop-stop : goal.invariant-loop-stop
-invariant-loop-stop l = record {
+abbrev pub invariant-loop-alloc : goal.invariant-loop-alloc
+invariant-loop-alloc l = record {
   starts : StartsLine l.bytes l.stop;
   read : AreExecutors l.bytes l.start l.scripts.items l.stop;
   executors : l.counts.executors ≡ length l.scripts.items;
@@ -18,5 +18,5 @@ invariant-loop-stop l = record {
   no_query : (token_at l.bytes (line_from l.bytes l.stop)).piece ≡ word query_word → l.counts.executors ≡ 0
 }
 
-abbrev pub decreases-loop-stop : goal.decreases-loop-stop
-decreases-loop-stop l = length l.bytes - l.stop
+abbrev pub decreases-loop-alloc : goal.decreases-loop-alloc
+decreases-loop-alloc l = length l.bytes - l.stop
