@@ -18,7 +18,7 @@ pub mod QueryLines
 pub mod QueryReads
 pub mod OneFault
 mod SmallLemmas
-mod ReadBackTokens
+pub mod ReadBackTokens
 mod ReadBackWords
 mod ReadBackSides
 mod ReadBackLines

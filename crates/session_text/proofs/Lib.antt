@@ -7,3 +7,8 @@ pub mod ReadFaults
 pub mod WordLines
 pub mod Wholes
 pub mod Steps
+pub mod OneFault
+pub mod SessionOnce
+pub mod SessionNoFault
+pub mod SessionOrFault
+pub mod SessionWritten

@@ -1,10 +1,6 @@
-use Rattle.session_text.proofs.FirstFaults.{clean_line}
-use Rattle.session_text.proofs.LineFaults.{refused_at}
-use Rattle.session_text.proofs.QueryFaults.{Leads-query}
-use Rattle.session_text.proofs.ReadFaults.{query_fault}
-use Rattle.session_text.proofs.WordLines.{Leads-executors}
-use Rattle.session_text.proofs.Wholes.{whole_fault}
+-- A text has at most one first fault.
+use Rattle.session_text.proofs.OneFault.{one_fault}
 use Rattle.session_text.proofs.laws.one_first_fault.Goals as goal
 
 pub returns : goal.returns
-returns c = ?
+returns c = one_fault

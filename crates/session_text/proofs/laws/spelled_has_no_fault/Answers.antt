@@ -1,10 +1,6 @@
-use Rattle.session_text.proofs.FirstFaults.{clean_line}
-use Rattle.session_text.proofs.LineFaults.{refused_at}
-use Rattle.session_text.proofs.QueryFaults.{Leads-query}
-use Rattle.session_text.proofs.ReadFaults.{query_fault}
-use Rattle.session_text.proofs.WordLines.{Leads-executors}
-use Rattle.session_text.proofs.Wholes.{whole_fault}
+-- What is spelled has no fault.
+use Rattle.session_text.proofs.SessionNoFault.{SpellsSession-no_fault}
 use Rattle.session_text.proofs.laws.spelled_has_no_fault.Goals as goal
 
 pub returns : goal.returns
-returns c = ?
+returns c = SpellsSession-no_fault
