@@ -6,7 +6,7 @@ use Rattle.std.proofs.lemmas.List.{at_drop_more, at_drop_all, drop-drop, get_or-
 use Rattle.std.proofs.lemmas.List.Sums.{prefix_len_stops}
 use Rattle.std.proofs.lemmas.Bool.Decides.{nat_tests}
 use borrow.Author.Tests.{ltb-true, ltb-false}
-use Rattle.lin_text.specs.Lines.{is_feed, is_in_line, ends_or_comments, is_skipped, first_line, line_from, line_end, line_below, StartsLine}
+use Rattle.lin_text.specs.Lines.{is_feed, is_in_line, ends_or_comments, is_skipped, first_line, line_from, line_below, StartsLine}
 use Rattle.lin_text.specs.Tokens.{begins_equal, token_length, kind_of, nothing_at, token_of, token_here}
 use Rattle.lin_text.specs.declared.token.TokenKind.{TokenKind}
 use Rattle.lin_text.specs.declared.token.TokenKind.TheVariants.{LineEnd}

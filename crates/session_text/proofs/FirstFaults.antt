@@ -1,10 +1,10 @@
 -- The first fault of lines, one line behind the other.
-use Rattle.std.proofs.Common.{◌≡◌, ℕ, ◌+◌, ◌<◌, ◌≤◌, suc, Bool, true, false, nat_lt, List, [], ◌∷◌, ◌++◌, length, drop, refl, sym, ap, subst, ◌∙◌, arith, inl, inr, ◌⊎◌, length-drop}
+use Rattle.std.proofs.Common.{◌≡◌, ℕ, ◌<◌, ◌≤◌, suc, true, false, nat_lt, List, [], ◌∷◌, length, drop, refl, ap, subst, arith, inl, inr, ◌⊎◌, length-drop}
 use borrow.Author.Tests.{ltb-true, ltb-false}
 use Rattle.lin_text.specs.declared.fault.SessionKind.{SessionKind}
 use Rattle.lin_text.specs.declared.fault.SessionKind.TheVariants as kinds
 use Rattle.lin_text.specs.Lines.{line_from, line_below, line_end, is_in_line}
-use Rattle.lin_text.specs.Pieces.{PlainToken, PlainLine, AreTokens, AreLines}
+use Rattle.lin_text.specs.Pieces.{PlainLine, AreTokens, AreLines}
 use Rattle.lin_text.proofs.LineLemmas.{prefix_len-le}
 use Rattle.lin_text.proofs.Positions.{first_line-bounds, tokens-within, lines_total}
 use Rattle.lin_text.proofs.UniqueTokens.{AreLines-once}

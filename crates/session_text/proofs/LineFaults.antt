@@ -1,18 +1,17 @@
 -- Faults in a line of the session's own.
-use Rattle.std.proofs.Common.{◌≡◌, ℕ, ◌+◌, ◌<◌, ◌≤◌, suc, Bool, true, false, cond, List, [], ◌∷◌, ◌++◌, length, Option, Some, None, refl, sym, ap, subst, ◌∙◌, arith, inl, inr, ◌⊎◌, append_assoc}
+use Rattle.std.proofs.Common.{◌≡◌, ℕ, ◌+◌, ◌<◌, ◌≤◌, Bool, true, false, cond, List, [], ◌∷◌, ◌++◌, Option, None, refl, sym, ap, subst, ◌∙◌, arith, inl, inr, ◌⊎◌}
 use Rattle.std.specs.Prelude.{bytes_eq, MatchOption, ◌==◌}
 use Rattle.std.proofs.lemmas.Bool.{false≢true}
 use Rattle.std.proofs.lemmas.Bool.Decides.{eqb_tells}
 use Rattle.lin_text.specs.declared.fault.SessionKind.{SessionKind}
 use Rattle.lin_text.specs.declared.fault.SessionKind.TheVariants as kinds
-use Rattle.lin_text.specs.Pieces.{Piece, var, word, name, number, plus, minus, times, compare, bad, line_end, PlainToken, PlainLine, pieces, AreTokens, AreLines}
+use Rattle.lin_text.specs.Pieces.{Piece, var, word, name, number, plus, minus, times, compare, bad, line_end, PlainToken, PlainLine, pieces, AreLines}
 use Rattle.lin_text.proofs.Positions.{tokens-later}
 use Rattle.lin_text.proofs.QueryReads.{parted}
-use Rattle.session_text.specs.declared.class.Class.{Class}
 use Rattle.session_text.specs.declared.class.Class.TheVariants.{Executor, Query, End, Other}
 use Rattle.session_text.specs.Words.{executor_word, query_word, end_word}
 use Rattle.session_text.specs.Classes.{class_of, refusal_kind}
-use Rattle.session_text.specs.Faults.{Part, Seen, count_of, CanCome, query_above, IsOneTooMany, CantCome, IsOfQuery, StandsInLine, StandsIn, IsFirst, rank}
+use Rattle.session_text.specs.Faults.{Seen, count_of, CanCome, query_above, IsOneTooMany, CantCome, IsOfQuery, StandsInLine, StandsIn, IsFirst, rank}
 use Rattle.session_text.proofs.WordLemmas.{same_bytes, bytes_eq-is, executor_not_query}
 use Rattle.session_text.proofs.FirstFaults.{first_here}
 

@@ -6,7 +6,7 @@ use Rattle.lin_text.specs.Pieces.{PlainLine}
 use Rattle.lin_text.proofs.UniqueTokens.{AreLines-once}
 use Rattle.std.specs.Prelude.{false}
 use Rattle.session_text.specs.Sessions.{body_of}
-use Rattle.session_text.specs.Faults.{StandsAt, IsFirst, HasFault, rank}
+use Rattle.session_text.specs.Faults.{StandsAt, IsFirst, rank}
 use Rattle.session_text.specs.Laws.{OneFirstFault}
 
 -- the kind of a rank

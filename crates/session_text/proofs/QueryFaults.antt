@@ -1,5 +1,5 @@
 -- The lines of a query within a session: where they have no fault, and where the first one stands.
-use Rattle.std.proofs.Common.{◌≡◌, ℕ, ◌+◌, ◌<◌, ◌≤◌, suc, Bool, true, false, cond, not, List, [], ◌∷◌, ◌++◌, length, take, drop, Option, Some, None, refl, sym, ap, subst, ◌∙◌, arith, inl, inr, ◌⊎◌, append_assoc}
+use Rattle.std.proofs.Common.{◌≡◌, ℕ, ◌+◌, ◌≤◌, suc, Bool, true, false, cond, not, List, [], ◌∷◌, ◌++◌, length, take, drop, Option, Some, None, refl, sym, ap, subst, ◌∙◌, arith, inl, inr, ◌⊎◌, append_assoc}
 use Rattle.std.specs.Prelude.{MatchOption, option_and_then}
 use Rattle.std.specs.List.{prefix_len}
 use Rattle.std.proofs.lemmas.List.{append-nil}
@@ -8,25 +8,19 @@ use Rattle.lin_model.specs.Conditions.{PlainCondition}
 use Rattle.lin_text.specs.declared.fault.TextKind.{TextKind}
 use Rattle.lin_text.specs.declared.fault.TextKind.TheVariants as texts
 use Rattle.lin_text.specs.declared.fault.SessionKind.{SessionKind}
-use Rattle.lin_text.specs.declared.fault.SessionKind.TheVariants as kinds
-use Rattle.lin_text.specs.Lines.{line_from, line_below, line_end}
-use Rattle.lin_text.specs.Pieces.{Piece, var, word, bad, PlainToken, PlainLine, pieces, AreTokens, AreLines}
-use Rattle.lin_text.specs.Grammar.{Line, line_pieces}
-use Rattle.lin_text.specs.Faults.{Stands, StandsAt as LinesFault, IsFirstFault, rank as text_rank}
-use Rattle.lin_text.specs.Queries.{begins_word, is_of_query, query_lines, query_end, start_of, Spells, HasFault}
+use Rattle.lin_text.specs.Lines.{line_from, line_below}
+use Rattle.lin_text.specs.Pieces.{Piece, var, word, PlainToken, PlainLine, pieces, AreLines}
+use Rattle.lin_text.specs.Faults.{Stands, StandsAt as LinesFault, rank as text_rank}
+use Rattle.lin_text.specs.Queries.{begins_word, is_of_query, query_lines, start_of, Spells}
 use Rattle.lin_text.proofs.LineLemmas.{line_from-end}
 use Rattle.lin_text.proofs.Places.{Place, start, var_name, low, low_number, high, high_number, var_end, item, size, after as behind, factor, done, next, run, run-BeginsLine, run-front}
-use Rattle.lin_text.proofs.Positions.{tokens-within, tokens-later, lines-behind}
 use Rattle.lin_text.proofs.UniqueTokens.{AreLines-once}
 use Rattle.lin_text.proofs.NoFault.{Spell-no_fault}
-use Rattle.session_text.specs.Words.{executor_word, query_word, token_at}
-use Rattle.session_text.specs.Classes.{class_of, refusal_kind, query_refusal}
-use Rattle.session_text.specs.Faults.{Part, executor, query, ended, Seen, is_the_word, count_of, first_word, part_of_word, part_with, seen_below, CanCome, query_above, session_kind, IsOneTooMany, CantCome, IsOfQuery, StandsInLine, StandsIn, IsFirst, rank}
+use Rattle.session_text.specs.Words.{executor_word, query_word}
+use Rattle.session_text.specs.Faults.{Part, executor, query, Seen, is_the_word, count_of, first_word, part_of_word, seen_below, query_above, IsOneTooMany, CantCome, IsOfQuery, StandsInLine, StandsIn, IsFirst}
 use Rattle.session_text.specs.Reading.{HasFaultFrom}
-use Rattle.session_text.proofs.WordLemmas.{executor_not_query}
-use Rattle.session_text.proofs.TokenLemmas.{token-again, line_from-again}
-use Rattle.session_text.proofs.FirstFaults.{IsFirst-map, first_here, Leads}
-use Rattle.session_text.proofs.LineFaults.{Refused, no_token, one_executor, one_query, cant_come, refused, refused-rank}
+use Rattle.session_text.proofs.TokenLemmas.{line_from-again}
+use Rattle.session_text.proofs.FirstFaults.{IsFirst-map, Leads}
 
 -- a reserved word but `var` stands in no line of a query
 
@@ -171,23 +165,23 @@ cut (line ∷ lines) =
     let one : 1 + n ≡ suc n = omega arith in
     elim (begins_word (pieces line.tokens)) as (λ b. begins_word (pieces line.tokens) ≡ b → Cut (line ∷ lines)) [
       | true ↦ λ e. record {
-          own = [];
-          rest = line ∷ lines;
-          all = refl;
-          are = ap (λ (b : Bool). take (cond (not b) (1 + n) 0) (line ∷ lines)) e;
-          left = ap (λ (b : Bool). drop (cond (not b) (1 + n) 0) (line ∷ lines)) e;
-          no_words = tt;
-          stops = e;
-        }
+        own = [];
+        rest = line ∷ lines;
+        all = refl;
+        are = ap (λ (b : Bool). take (cond (not b) (1 + n) 0) (line ∷ lines)) e;
+        left = ap (λ (b : Bool). drop (cond (not b) (1 + n) 0) (line ∷ lines)) e;
+        no_words = tt;
+        stops = e;
+      }
       | false ↦ λ e. record {
-          own = line ∷ more.own;
-          rest = more.rest;
-          all = ap (λ (ls : List PlainLine). line ∷ ls) more.all;
-          are = ap (λ (b : Bool). take (cond (not b) (1 + n) 0) (line ∷ lines)) e ∙ ap (λ (m : ℕ). take m (line ∷ lines)) one ∙ ap (λ (ls : List PlainLine). line ∷ ls) more.are;
-          left = ap (λ (b : Bool). drop (cond (not b) (1 + n) 0) (line ∷ lines)) e ∙ ap (λ (m : ℕ). drop m (line ∷ lines)) one ∙ more.left;
-          no_words = (e, more.no_words);
-          stops = more.stops;
-        }
+        own = line ∷ more.own;
+        rest = more.rest;
+        all = ap (λ (ls : List PlainLine). line ∷ ls) more.all;
+        are = ap (λ (b : Bool). take (cond (not b) (1 + n) 0) (line ∷ lines)) e ∙ ap (λ (m : ℕ). take m (line ∷ lines)) one ∙ ap (λ (ls : List PlainLine). line ∷ ls) more.are;
+        left = ap (λ (b : Bool). drop (cond (not b) (1 + n) 0) (line ∷ lines)) e ∙ ap (λ (m : ℕ). drop m (line ∷ lines)) one ∙ more.left;
+        no_words = (e, more.no_words);
+        stops = more.stops;
+      }
     ] refl
 
 pub are_rest : (bytes : List ℕ) (at : ℕ) (own rest : List PlainLine) → AreLines false bytes at (own ++ rest) → AreLines false bytes (start_of bytes rest) rest

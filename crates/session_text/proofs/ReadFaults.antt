@@ -1,25 +1,23 @@
 -- The first fault of a query's text is the first of the session's text from there on.
-use Rattle.std.proofs.Common.{◌≡◌, ℕ, ◌+◌, ◌<◌, ◌≤◌, Bool, true, false, List, [], ◌∷◌, ◌++◌, length, drop, length-drop, refl, sym, ap, subst, ◌∙◌, arith, inl, inr, ◌⊎◌, append_assoc}
+use Rattle.std.proofs.Common.{◌≡◌, ℕ, ◌+◌, ◌<◌, ◌≤◌, false, List, [], ◌∷◌, ◌++◌, length, drop, length-drop, refl, sym, ap, subst, ◌∙◌, arith, inl, inr, ◌⊎◌, append_assoc}
 use Rattle.lin_text.specs.declared.fault.TextKind.{TextKind}
 use Rattle.lin_text.specs.declared.fault.TextKind.TheVariants as texts
 use Rattle.lin_text.specs.declared.fault.SessionKind.{SessionKind}
-use Rattle.lin_text.specs.declared.fault.SessionKind.TheVariants as kinds
-use Rattle.std.specs.List.{prefix_len}
-use Rattle.lin_text.specs.Lines.{line_below, line_end, is_in_line}
+use Rattle.lin_text.specs.Lines.{line_below, is_in_line}
 use Rattle.lin_text.proofs.LineLemmas.{prefix_len-le}
-use Rattle.lin_text.specs.Pieces.{Piece, word, bad, PlainToken, PlainLine, pieces, AreTokens, AreLines}
+use Rattle.lin_text.specs.Pieces.{Piece, word, bad, PlainToken, PlainLine, pieces, AreLines}
 use Rattle.lin_text.specs.Faults.{Stands, StandsAt as LinesFault, IsFirstFault, rank as text_rank}
-use Rattle.lin_text.specs.Queries.{begins_word, query_lines, start_of, HasFault}
+use Rattle.lin_text.specs.Queries.{begins_word, HasFault}
 use Rattle.lin_text.proofs.Positions.{tokens-within, tokens-later, lines-behind}
 use Rattle.session_text.specs.Words.{executor_word, query_word, token_at}
-use Rattle.session_text.specs.Classes.{class_of, refusal_kind, query_refusal}
-use Rattle.session_text.specs.Faults.{count_of, session_kind, IsOneTooMany, IsOfQuery, StandsInLine, StandsIn, IsFirst, rank}
+use Rattle.session_text.specs.Classes.{class_of, query_refusal}
+use Rattle.session_text.specs.Faults.{count_of, session_kind, IsOneTooMany, IsOfQuery, StandsInLine, StandsIn, rank}
 use Rattle.session_text.specs.Reading.{HasFaultFrom}
 use Rattle.session_text.proofs.WordLemmas.{executor_not_query}
 use Rattle.session_text.proofs.TokenLemmas.{token-again}
 use Rattle.session_text.proofs.FirstFaults.{IsFirst-map, first_here}
 use Rattle.session_text.proofs.LineFaults.{Refused, no_token, one_executor, one_query, cant_come, refused, refused-rank}
-use Rattle.session_text.proofs.QueryFaults.{word_stands, word_first, count_none, in_query, query_stands, stands_query, IsCleanLine, AreCleanLines, clean_prefix, NoWords, Cut, cut, are_rest}
+use Rattle.session_text.proofs.QueryFaults.{word_stands, word_first, count_none, in_query, query_stands, stands_query, AreCleanLines, clean_prefix, NoWords, Cut, cut, are_rest}
 
 session_rank : (k : TextKind) → rank (session_kind k) ≡ 3 + text_rank k
 session_rank texts.TooManyVars = refl
@@ -119,12 +117,12 @@ module _ (bytes : List ℕ) (at : ℕ) (k : TextKind) (place : ℕ) (h : HasFaul
   none_before : (front after : List PlainToken) (t : PlainToken) → f.line.tokens ≡ front ++ t ∷ after → t.from ≤ place → (w : List ℕ) → count_of w (pieces front) ≡ 0
   none_before front after t split le w =
       count_none w front (λ before mid u e x is.
-          let there : f.line.tokens ≡ before ++ u ∷ (mid ++ t ∷ after) = split ∙ ap (λ (us : List PlainToken). us ++ t ∷ after) e ∙ append_assoc before (u ∷ mid) (t ∷ after) in
-          let earlier : u.from < t.from = tokens-later false bytes f.line.start f.line.tokens before mid after u t here.2 there in
-          elim (first.least texts.Syntax u.from (word_in_text before (mid ++ t ∷ after) u x there is)) [
-            | inl later ↦ omega (arith, later, earlier, le)
-            | inr same ↦ omega (arith, same.0, earlier, le)
-          ])
+      let there : f.line.tokens ≡ before ++ u ∷ (mid ++ t ∷ after) = split ∙ ap (λ (us : List PlainToken). us ++ t ∷ after) e ∙ append_assoc before (u ∷ mid) (t ∷ after) in
+      let earlier : u.from < t.from = tokens-later false bytes f.line.start f.line.tokens before mid after u t here.2 there in
+      elim (first.least texts.Syntax u.from (word_in_text before (mid ++ t ∷ after) u x there is)) [
+        | inl later ↦ omega (arith, later, earlier, le)
+        | inr same ↦ omega (arith, same.0, earlier, le)
+      ])
 
   module _ (kind : SessionKind) (way : Told f.token.piece e n k kind) where
     -- a fault of the query's text that is told as it is

@@ -1,15 +1,14 @@
 -- A text that spells a session has no fault.
 use Rattle.std.proofs.Common.{◌≡◌, ◌+◌, ℕ, false, List, [], ◌∷◌, length, refl, arith}
 use Rattle.std.specs.Prelude.{sum_by}
-use Rattle.lin_model.specs.Conditions.{PlainCondition}
 use Rattle.lin_text.specs.declared.fault.SessionKind.{SessionKind}
 use Rattle.lin_text.specs.Lines.{line_from}
 use Rattle.lin_text.specs.Pieces.{PlainLine, AreLines}
-use Rattle.session_text.specs.Sessions.{body_of, SpellsSession}
-use Rattle.session_text.specs.Faults.{StandsIn, IsFirst, HasFault}
+use Rattle.session_text.specs.Sessions.{body_of}
+use Rattle.session_text.specs.Faults.{StandsIn}
 use Rattle.session_text.specs.Laws.{SpelledHasNoFault}
 use Rattle.session_text.specs.Reading.{HasFaultFrom, part_after}
-use Rattle.session_text.proofs.WordLines.{behind_end, between, between-no_query, between-end, Leads-executors, Leads-end}
+use Rattle.session_text.proofs.WordLines.{behind_end, between-no_query, between-end, Leads-executors, Leads-end}
 use Rattle.session_text.proofs.Wholes.{fault_behind}
 
 -- behind the end line no fault stands where only skipped lines come

@@ -1,12 +1,12 @@
 -- A text spells one session.
-use Rattle.std.proofs.Common.{◌≡◌, ℕ, false, List, [], ◌∷◌, length, refl, sym, ap, subst, ◌∙◌, arith}
+use Rattle.std.proofs.Common.{◌≡◌, ℕ, false, List, [], ◌∷◌, refl, sym, ap, subst, ◌∙◌}
 use Rattle.lin_model.specs.Conditions.{PlainCondition}
 use Rattle.lin_text.specs.Lines.{line_from}
-use Rattle.lin_text.specs.Pieces.{Piece, word}
+use Rattle.lin_text.specs.Pieces.{word}
 use Rattle.lin_text.specs.Queries.{Spells}
 use Rattle.lin_text.proofs.Unique.{Spells-once}
 use Rattle.session_text.specs.Words.{executor_word, query_word, end_word, token_at, IsWordLine}
-use Rattle.session_text.specs.Sessions.{IsQuery, AreQueries, IsExecutor, AreExecutors, IsEnd, body_of, SpellsSession}
+use Rattle.session_text.specs.Sessions.{AreQueries, AreExecutors, body_of}
 use Rattle.session_text.specs.Laws.{SpelledOnce}
 use Rattle.session_text.proofs.WordLemmas.{executor_not_query, executor_not_end, query_not_end}
 

@@ -1,5 +1,5 @@
 -- Each text spells a session or has a fault.
-use Rattle.std.proofs.Common.{◌≡◌, ℕ, ◌+◌, ◌-◌, ◌<◌, ◌≤◌, zero, suc, Bool, true, false, List, [], ◌∷◌, length, drop, refl, sym, ap, subst, ◌∙◌, arith, inl, inr, ◌⊎◌, cond, length-drop}
+use Rattle.std.proofs.Common.{◌≡◌, ℕ, ◌+◌, ◌-◌, ◌<◌, ◌≤◌, zero, suc, true, false, List, [], ◌∷◌, length, drop, refl, sym, ap, ◌∙◌, arith, inl, inr, ◌⊎◌, cond, length-drop}
 use Rattle.std.specs.Prelude.{bytes_eq, sum_by, ◌==◌}
 use Rattle.std.proofs.lemmas.Bool.{false≢true}
 use Rattle.std.proofs.lemmas.Bool.Decides.{eqb_tells}
@@ -9,7 +9,6 @@ use Rattle.lin_text.specs.declared.fault.SessionKind.{SessionKind}
 use Rattle.lin_text.specs.declared.fault.SessionKind.TheVariants as kinds
 use Rattle.lin_text.specs.Lines.{line_from, line_below}
 use Rattle.lin_text.specs.Pieces.{Piece, word, line_end}
-use Rattle.lin_text.specs.Queries.{Spells}
 use Rattle.lin_text.proofs.Positions.{first_line-bounds}
 use Rattle.lin_text.proofs.SpelledOrFault.{spelled_or_fault}
 use Rattle.session_text.specs.Words.{green_word, one_digit, executor_word, query_word, end_word, token_at, second_at, third_at, text_of, IsHeader, IsWordLine}
@@ -17,13 +16,12 @@ use Rattle.session_text.specs.Sessions.{IsQuery, AreQueries, IsExecutor, AreExec
 use Rattle.session_text.specs.Faults.{Seen, header, executor, ended, HasFault}
 use Rattle.session_text.specs.Laws.{SpelledOrFaulty}
 use Rattle.session_text.specs.Reading.{HasFaultFrom, part_after}
-use Rattle.session_text.proofs.WordLemmas.{same_bytes, bytes_eq-is, executor_not_end, query_not_end}
-use Rattle.session_text.proofs.FirstFaults.{Leads}
-use Rattle.session_text.proofs.QueryFaults.{in_query, asked}
+use Rattle.session_text.proofs.WordLemmas.{same_bytes, bytes_eq-is}
+use Rattle.session_text.proofs.QueryFaults.{asked}
 use Rattle.session_text.proofs.ReadFaults.{query_fault}
 use Rattle.session_text.proofs.WordLines.{behind_end, between, between-no_query, between-executor, between-end, Leads-query_line, Leads-asked, Leads-executor, Leads-one, Leads-end, Leads-executors}
 use Rattle.session_text.proofs.Wholes.{first_refused, too_many_executors, too_many_queries, no_end, whole_fault, bad_header}
-use Rattle.session_text.proofs.Steps.{second_query, second_executor, second_end, cant_begin, IsWordLine-ahead, IsQuery-ahead, IsExecutor-ahead, Spells-ahead}
+use Rattle.session_text.proofs.Steps.{second_query, second_executor, second_end, cant_begin, IsWordLine-ahead, IsQuery-ahead, IsExecutor-ahead}
 
 -- tests
 

@@ -1,22 +1,22 @@
 -- What is written for a session is spelled as that session.
-use Rattle.std.proofs.Common.{◌≡◌, ℕ, ◌+◌, ◌-◌, ◌<◌, ◌≤◌, Bool, true, false, cond, not, List, [], ◌∷◌, ◌++◌, length, take, drop, refl, sym, ap, subst, ◌∙◌, append_assoc, arith, length-append, length-drop, All, flat_map}
+use Rattle.std.proofs.Common.{◌≡◌, ℕ, ◌+◌, ◌≤◌, false, List, [], ◌∷◌, ◌++◌, length, take, drop, refl, sym, ap, subst, ◌∙◌, append_assoc, arith, length-append, length-drop, All, flat_map}
 use Rattle.std.specs.Prelude.{codes}
 use Rattle.std.specs.List.{prefix_len}
-use Rattle.std.proofs.lemmas.List.{append-nil, drop-drop, take-append-drop, length-take-le}
+use Rattle.std.proofs.lemmas.List.{drop-drop, take-append-drop, length-take-le}
 use Rattle.std.proofs.lemmas.List.Elements.{All-head, All-tail}
 use Rattle.lin_model.specs.Conditions.{PlainCondition, IsCondition}
 use Rattle.lin_text.specs.Spelling.{line, condition_text, query_text, executor_text, session_text}
 use Rattle.lin_text.specs.Laws.{EndsQuery}
 use Rattle.lin_text.specs.Lines.{is_blank, is_in_line, is_skipped, first_line, line_from, line_below}
 use Rattle.lin_text.specs.Tokens.{token_from, token_here, token_length}
-use Rattle.lin_text.specs.Pieces.{Piece, PlainToken, word, line_end, plain_token, piece_of, name_piece}
+use Rattle.lin_text.specs.Pieces.{PlainToken, word, line_end, plain_token, piece_of, name_piece}
 use Rattle.lin_text.specs.Queries.{Spells}
 use Rattle.lin_text.proofs.LineLemmas.{line_from-here, line_from-end}
 use Rattle.lin_text.proofs.ReadBackTokens.{drop-behind}
 use Rattle.lin_text.proofs.ReadBackFront.{front_of, front_piece, first_token-front}
 use Rattle.lin_text.proofs.ReadBackWithin.{Spells-within, EndsQuery-query, EndsQuery-executor, EndsQuery-end}
 use Rattle.session_text.specs.Words.{green_word, one_digit, executor_word, query_word, end_word, token_at, second_at, IsHeader, IsWordLine}
-use Rattle.session_text.specs.Sessions.{IsQuery, AreQueries, IsExecutor, AreExecutors, IsEnd, body_of, SpellsSession}
+use Rattle.session_text.specs.Sessions.{AreQueries, AreExecutors, IsEnd, body_of, SpellsSession}
 use Rattle.session_text.specs.Laws.{WrittenIsSpelled}
 
 -- a text that begins with a line of one word, of so many bytes

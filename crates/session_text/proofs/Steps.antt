@@ -4,8 +4,7 @@ use Rattle.std.specs.Prelude.{Result, Ok, Err, IfErr, IsErrAnd, sum_by}
 use Rattle.std.proofs.lemmas.Bool.Decides.{eqb_tells}
 use Rattle.lin_model.specs.Conditions.{PlainCondition}
 use Rattle.lin_text.specs.declared.fault.SessionKind.{SessionKind}
-use Rattle.lin_text.specs.declared.fault.SessionKind.TheVariants as kinds
-use Rattle.lin_text.specs.Lines.{line_from, line_below}
+use Rattle.lin_text.specs.Lines.{line_from}
 use Rattle.lin_text.specs.Pieces.{Piece, word, line_end, PlainLine, AreLines}
 use Rattle.lin_text.specs.Queries.{Spells, start_of}
 use Rattle.lin_text.proofs.Positions.{first_line-bounds, lines-behind}
@@ -15,12 +14,12 @@ use Rattle.session_text.specs.declared.refusal.ReadError.TheVariants as errors
 use Rattle.session_text.specs.Words.{executor_word, query_word, end_word, token_at, second_at, IsHeader, IsWordLine}
 use Rattle.session_text.specs.Sessions.{IsQuery, AreQueries, IsExecutor, AreExecutors, body_of}
 use Rattle.session_text.specs.Classes.{class_of, refusal_kind}
-use Rattle.session_text.specs.Faults.{Seen, header, executor, nothing_seen, MayBegin, CanCome, HasFault}
+use Rattle.session_text.specs.Faults.{Seen, header, executor, nothing_seen, MayBegin, CanCome}
 use Rattle.session_text.specs.declared.refusal.Counts.{Counts}
 use Rattle.session_text.specs.Reading.{HasFaultFrom, IsReadError, IsSessionError, seen_with, part_after}
 use Rattle.session_text.proofs.WordLemmas.{executor_not_query, executor_not_end, query_not_end}
 use Rattle.session_text.proofs.FirstFaults.{Leads}
-use Rattle.session_text.proofs.QueryFaults.{asked, Cut, cut, are_rest}
+use Rattle.session_text.proofs.QueryFaults.{asked, Cut, cut}
 use Rattle.session_text.proofs.WordLines.{between, between-no_query, between-executor, between-end, begins_before_end}
 use Rattle.session_text.proofs.Wholes.{second_refused, whole_fault}
 

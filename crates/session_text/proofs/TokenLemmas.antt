@@ -1,5 +1,5 @@
 -- Tokens and lines: read again at their own place, and those of the session's own lines.
-use Rattle.std.proofs.Common.{◌≡◌, ℕ, ◌+◌, ◌-◌, ◌<◌, ◌≤◌, zero, suc, Bool, true, false, cond, not, List, [], ◌∷◌, ◌++◌, length, drop, refl, sym, ap, subst, ◌∙◌, arith, length-drop}
+use Rattle.std.proofs.Common.{◌≡◌, ℕ, ◌+◌, ◌-◌, ◌<◌, zero, suc, Bool, true, false, cond, not, List, [], ◌∷◌, ◌++◌, length, drop, refl, sym, ap, subst, ◌∙◌, arith, length-drop}
 use Rattle.std.specs.Prelude.{MatchBool, slice_range, bytes_eq, codes, ◌&&◌}
 use Rattle.std.specs.List.{prefix_len}
 use Rattle.std.proofs.lemmas.List.{drop-drop}
@@ -7,12 +7,12 @@ use Rattle.std.proofs.lemmas.Bool.{false≢true}
 use Rattle.lin_text.specs.declared.token.Token.{Token}
 use Rattle.lin_text.specs.declared.token.TokenKind.{TokenKind}
 use Rattle.lin_text.specs.declared.token.TokenKind.TheVariants as kinds
-use Rattle.lin_text.specs.Lines.{is_feed, is_blank, is_skipped, first_line, line_from, line_below, line_end}
+use Rattle.lin_text.specs.Lines.{is_feed, is_blank, is_skipped, first_line, line_from}
 use Rattle.lin_text.specs.Tokens.{token_from, token_here, token_of, token_length, kind_of, nothing_at}
-use Rattle.lin_text.specs.Pieces.{Piece, var, word, name, compare, plus, minus, times, bad, line_end as line_end_piece, PlainToken, PlainLine, plain_token, piece_of, name_piece, symbol_piece, is_word, comparison_of, first_token, is_last, AreTokens, AreLines}
-use Rattle.lin_text.proofs.LineLemmas.{line_from-here, line_from-end}
-use Rattle.lin_text.proofs.Positions.{IsAhead, first_token-ahead, first_line-bounds, tokens-within}
-use Rattle.session_text.specs.Words.{token_at, second_at, third_at, text_of, green_word, one_digit, IsHeader}
+use Rattle.lin_text.specs.Pieces.{var, word, name, compare, plus, minus, times, line_end as line_end_piece, PlainToken, plain_token, piece_of, name_piece, symbol_piece, is_word, comparison_of, is_last, AreTokens}
+use Rattle.lin_text.proofs.LineLemmas.{line_from-here}
+use Rattle.lin_text.proofs.Positions.{first_line-bounds}
+use Rattle.session_text.specs.Words.{token_at, second_at, text_of}
 
 -- behind a run nothing of the run comes
 prefix_len-behind : (p : ℕ → Bool) (xs : List ℕ) → prefix_len p (drop (prefix_len p xs) xs) ≡ 0

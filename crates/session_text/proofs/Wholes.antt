@@ -1,17 +1,16 @@
 -- Faults at the first and the second token of a line of the session's own, at the end, and in the header.
-use Rattle.std.proofs.Common.{◌≡◌, ℕ, ◌+◌, ◌<◌, ◌≤◌, suc, Bool, true, false, cond, nat_lt, List, [], ◌∷◌, ◌++◌, length, drop, refl, sym, ap, subst, ◌∙◌, arith, inl, inr, ◌⊎◌, length-drop}
-use Rattle.std.specs.List.{prefix_len}
+use Rattle.std.proofs.Common.{◌≡◌, ℕ, ◌+◌, ◌<◌, ◌≤◌, suc, true, false, nat_lt, List, [], ◌∷◌, ◌++◌, length, drop, refl, sym, ap, subst, ◌∙◌, arith, inl, inr, ◌⊎◌, length-drop}
 use borrow.Author.Tests.{ltb-true, ltb-false}
 use Rattle.lin_text.specs.declared.fault.SessionKind.{SessionKind}
 use Rattle.lin_text.specs.declared.fault.SessionKind.TheVariants as kinds
-use Rattle.lin_text.specs.Lines.{line_from, line_below, line_end as end_of, is_in_line}
-use Rattle.lin_text.specs.Pieces.{Piece, word, bad, line_end, PlainToken, PlainLine, pieces, AreTokens, AreLines}
+use Rattle.lin_text.specs.Lines.{line_from, line_end as end_of, is_in_line}
+use Rattle.lin_text.specs.Pieces.{Piece, word, line_end, PlainToken, PlainLine, pieces, AreLines}
 use Rattle.lin_text.proofs.LineLemmas.{prefix_len-le}
 use Rattle.lin_text.proofs.Positions.{first_token-ahead, first_line-bounds, lines_total}
 use Rattle.session_text.specs.Words.{executor_word, query_word, token_at, second_at, IsHeader}
 use Rattle.session_text.specs.Sessions.{body_of}
 use Rattle.session_text.specs.Classes.{class_of, refusal_kind}
-use Rattle.session_text.specs.Faults.{ended, Seen, count_of, CanCome, StandsIn, StandsAt, IsBadHeader, nothing_seen, IsFirst, HasFault, rank}
+use Rattle.session_text.specs.Faults.{ended, Seen, count_of, CanCome, StandsIn, StandsAt, nothing_seen, HasFault, rank}
 use Rattle.session_text.specs.Reading.{HasFaultFrom}
 use Rattle.session_text.proofs.TokenLemmas.{one_token, first_two}
 use Rattle.session_text.proofs.FirstFaults.{IsFirst-map, stands_behind}

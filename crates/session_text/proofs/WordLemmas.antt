@@ -1,11 +1,10 @@
 -- The words of a session, and what a token is.
-use Rattle.std.proofs.Common.{◌≡◌, ℕ, Bool, true, false, cond, List, [], ◌∷◌, refl, sym, ap, subst, ◌∙◌, get_or, arith, inl, inr, ◌⊎◌}
+use Rattle.std.proofs.Common.{◌≡◌, ℕ, Bool, true, false, cond, List, refl, sym, ap, subst, ◌∙◌, get_or, arith, inl, inr, ◌⊎◌}
 use Rattle.std.specs.Prelude.{bytes_eq, codes}
 use Rattle.std.proofs.lemmas.Slice.Eq.{bytes_eq-Decides}
-use Rattle.std.proofs.lemmas.Bool.{false≢true}
-use Rattle.lin_text.specs.Pieces.{Piece, var, word, name, compare, plus, minus, times, bad, line_end, name_piece, symbol_piece, is_word, comparison_of}
+use Rattle.lin_text.specs.Pieces.{Piece, var, word, name, compare, plus, minus, times, name_piece, symbol_piece, is_word, comparison_of}
 use Rattle.session_text.specs.declared.class.Class.{Class}
-use Rattle.session_text.specs.declared.class.Class.TheVariants.{Executor, Query, End, Other, Bad, LineEnd}
+use Rattle.session_text.specs.declared.class.Class.TheVariants.{Executor, Query, End, Other}
 use Rattle.session_text.specs.Words.{executor_word, query_word, end_word}
 use Rattle.session_text.specs.Classes.{class_of, class_of_word}
 

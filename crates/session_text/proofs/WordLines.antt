@@ -1,5 +1,5 @@
 -- The lines of a session's own: where they have no fault, and where one stands at their first or second token.
-use Rattle.std.proofs.Common.{◌≡◌, ℕ, ◌+◌, ◌<◌, ◌≤◌, suc, Bool, true, false, cond, nat_eq, nat_lt, List, [], ◌∷◌, ◌++◌, length, drop, Option, None, refl, sym, ap, subst, ◌∙◌, arith, inl, inr, ◌⊎◌}
+use Rattle.std.proofs.Common.{◌≡◌, ℕ, ◌+◌, ◌<◌, ◌≤◌, suc, Bool, true, false, cond, nat_lt, List, [], ◌∷◌, ◌++◌, length, drop, None, refl, sym, ap, subst, ◌∙◌, arith, inl, inr, ◌⊎◌}
 use Rattle.std.specs.Prelude.{sum_by, ◌==◌}
 use Rattle.std.proofs.lemmas.List.{at_drop_all}
 use Rattle.std.proofs.lemmas.List.Sums.{sum_by-cons}
@@ -7,21 +7,19 @@ use Rattle.std.proofs.lemmas.Bool.Decides.{eqb_tells}
 use borrow.Author.Tests.{ltb-true, ltb-false}
 use Rattle.lin_model.specs.Conditions.{PlainCondition}
 use Rattle.lin_text.specs.declared.fault.SessionKind.{SessionKind}
-use Rattle.lin_text.specs.declared.fault.SessionKind.TheVariants as kinds
 use Rattle.std.specs.List.{prefix_len}
 use Rattle.lin_text.specs.Lines.{line_from, line_below, is_blank}
 use Rattle.lin_text.specs.Tokens.{token_from, token_here}
-use Rattle.lin_text.specs.Pieces.{Piece, word, bad, line_end, PlainToken, PlainLine, plain_token, piece_of, pieces, AreTokens, AreLines}
-use Rattle.lin_text.proofs.Positions.{first_line-bounds, tokens_total, lines_total}
+use Rattle.lin_text.specs.Pieces.{Piece, word, line_end, PlainToken, PlainLine, plain_token, piece_of, pieces, AreTokens, AreLines}
+use Rattle.lin_text.proofs.Positions.{tokens_total, lines_total}
 use Rattle.session_text.specs.Words.{executor_word, query_word, end_word, token_at, second_at, IsWordLine}
 use Rattle.session_text.specs.Sessions.{IsQuery, AreQueries, IsExecutor, AreExecutors}
-use Rattle.session_text.specs.Classes.{class_of, refusal_kind}
-use Rattle.session_text.specs.Faults.{Part, header, executor, query, ended, Seen, count_of, part_of_word, seen_below, MayBegin, CanCome, query_above, StandsInLine, StandsIn}
-use Rattle.session_text.specs.Reading.{HasFaultFrom, part_after}
+use Rattle.session_text.specs.Faults.{Part, header, executor, ended, Seen, count_of, part_of_word, seen_below, MayBegin, query_above, StandsInLine}
+use Rattle.session_text.specs.Reading.{part_after}
 use Rattle.session_text.proofs.WordLemmas.{executor_not_query, executor_not_end, query_not_end}
-use Rattle.session_text.proofs.TokenLemmas.{two_tokens, one_token, first_two}
+use Rattle.session_text.proofs.TokenLemmas.{two_tokens}
 use Rattle.session_text.proofs.FirstFaults.{Leads, Leads-refl, Leads-trans, clean_line}
-use Rattle.session_text.proofs.LineFaults.{Refused, one_executor, one_query, refused, OwnStands, refused-stands, own_stands, refused_at}
+use Rattle.session_text.proofs.LineFaults.{OwnStands, own_stands}
 use Rattle.session_text.proofs.QueryFaults.{in_query, asked, Leads-query}
 
 -- at the end of the input nothing is left

@@ -1,5 +1,5 @@
 -- What the reader of a session answers for the text from a place on.
-use Rattle.std.specs.Prelude.{ℕ, ◌==◌, Bool, false, List, if◌then◌else◌}
+use Rattle.std.specs.Prelude.{ℕ, ◌==◌, false, List, if◌then◌else◌}
 use Rattle.lin_text.specs.declared.fault.SessionKind.{SessionKind}
 use Rattle.lin_text.specs.Pieces.{PlainLine, AreLines}
 use Rattle.session_text.specs.declared.refusal.Counts.{Counts}

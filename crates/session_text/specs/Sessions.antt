@@ -1,5 +1,5 @@
 -- What a text has to be to spell a session.
-use Rattle.std.specs.Prelude.{◌≡◌, ℕ, Bool, false, List, [], ◌∷◌, length}
+use Rattle.std.specs.Prelude.{◌≡◌, ℕ, false, List, [], ◌∷◌, length}
 use Rattle.lin_model.specs.Conditions.{PlainCondition, IsSession}
 use Rattle.lin_text.specs.Lines.{line_from, line_below}
 use Rattle.lin_text.specs.Queries.{Spells}

@@ -68,10 +68,7 @@ fn read_query(
 {
     let line = line_at(bytes, at);
     if counts.queries == MAX_QUERIES {
-        return Err(ReadError::Fault(fault_at(
-            SessionKind::TooManyQueries,
-            line.first.from,
-        )));
+        return Err(ReadError::Fault(fault_at(SessionKind::TooManyQueries, line.first.from)));
     }
     let counts = counts.with_query();
     let below = below_word(bytes, line, counts)?;

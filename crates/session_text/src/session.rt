@@ -38,10 +38,7 @@ fn read_executor(
 {
     let line = line_at(bytes, at);
     if counts.executors == MAX_EXECUTORS {
-        return Err(ReadError::Fault(fault_at(
-            SessionKind::TooManyExecutors,
-            line.first.from,
-        )));
+        return Err(ReadError::Fault(fault_at(SessionKind::TooManyExecutors, line.first.from)));
     }
     let counts = counts.with_executor();
     let below = below_word(bytes, line, counts)?;

@@ -1,6 +1,5 @@
-use Rattle.std.proofs.Common.{◌≡◌, ap, sym, subst, ◌∙◌, ℕ}
+use Rattle.std.proofs.Common.{◌≡◌, ap, sym, ◌∙◌, ℕ}
 use Rattle.std.proofs.lemmas.Bool.{false≢true}
-use Rattle.lin_text.specs.Pieces.{line_end}
 use Rattle.session_text.specs.Words.{token_at, second_at, third_at, text_of, green_word, one_digit}
 use Rattle.session_text.proofs.TokenLemmas.{text-same, to-same, end-same}
 use Rattle.session_text.proofs.WordLemmas.{same_bytes, bytes_eq-is}

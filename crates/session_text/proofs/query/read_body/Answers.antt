@@ -1,4 +1,4 @@
-use Rattle.std.proofs.Common.{ℕ, false, [], sym, subst, ap, ◌∙◌}
+use Rattle.std.proofs.Common.{false, [], subst}
 use Rattle.lin_text.specs.declared.refusal.ReadError.{ReadError}
 use Rattle.lin_text.specs.Answers.{IsReadError}
 use Rattle.session_text.specs.Words.{token_at}

@@ -1,15 +1,13 @@
 use Rattle.std.proofs.Common.{◌≡◌, ◌+◌, ℕ, [], refl, sym, subst, ap, ◌∙◌}
 use Rattle.lin_text.specs.declared.fault.SessionKind.TheVariants.{TooManyQueries}
 use Rattle.lin_text.specs.Lines.{line_from, line_below}
-use Rattle.lin_text.specs.Pieces.{line_end}
 use Rattle.session_text.specs.declared.refusal.Fault.{Fault}
 use Rattle.session_text.specs.declared.refusal.Counts.{Counts}
 use Rattle.session_text.specs.Words.{token_at, second_at, query_word, IsWordLine}
 use Rattle.session_text.specs.Classes.{class_of, refusal_kind}
 use Rattle.session_text.specs.Faults.{executor, query}
-use Rattle.session_text.specs.Reading.{seen_with, HasFaultFrom, IsReadError}
+use Rattle.session_text.specs.Reading.{seen_with}
 use Rattle.session_text.proofs.FirstFaults.{Leads}
-use Rattle.session_text.proofs.QueryFaults.{asked, in_query}
 use Rattle.session_text.proofs.WordLines.{Leads-query_line}
 use Rattle.session_text.proofs.Wholes.{too_many_queries}
 use Rattle.session_text.proofs.Steps.{fault_is, handed_on, handed_up, second_query}

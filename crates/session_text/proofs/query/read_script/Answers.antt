@@ -1,16 +1,13 @@
-use Rattle.std.proofs.Common.{◌≡◌, ◌+◌, ◌∷◌, [], ℕ, List, length, refl, sym, subst, ap, ◌∙◌, arith}
+use Rattle.std.proofs.Common.{List, length, refl, sym, subst, ap, ◌∙◌, arith}
 use Rattle.std.proofs.lemmas.List.{length_push}
 use Rattle.std.proofs.lemmas.Bool.{false≢true}
 use Rattle.lin_model.specs.Conditions.{PlainCondition}
-use Rattle.lin_text.specs.Lines.{line_from}
 use Rattle.session_text.specs.declared.refusal.Counts.{Counts}
-use Rattle.session_text.specs.Words.{token_at}
 use Rattle.session_text.specs.Sessions.{AreQueries}
 use Rattle.session_text.specs.Faults.{Seen, executor}
 use Rattle.session_text.specs.Reading.{seen_with}
 use Rattle.session_text.proofs.WordLemmas.{class-query, query-class}
 use Rattle.session_text.proofs.FirstFaults.{Leads}
-use Rattle.session_text.proofs.QueryFaults.{asked}
 use Rattle.session_text.proofs.WordLines.{Leads-queries}
 use Rattle.session_text.proofs.Steps.{IsReadError-back, handed_up, asked-is, AreQueries-push, IsQuery-ahead}
 use Rattle.session_text.proofs.query.read_script.Goals as goal

@@ -10,7 +10,7 @@ invariant-loop-alloc l = record {
   read : AreQueries l.bytes l.start l.queries.items l.at;
   executors : l.so_far.executors ≡ l.fn.counts.executors;
   queries : l.so_far.queries ≡ l.fn.counts.queries + length l.queries.items;
-  few : l.so_far.queries ≤ 100000
+  few : l.so_far.queries ≤ 100000;
 }
 
 abbrev pub decreases-loop-alloc : goal.decreases-loop-alloc

@@ -1,7 +1,7 @@
-use Rattle.std.proofs.Common.{◌≡◌, ◌<◌, ℕ, length, refl, sym, ap, ◌∙◌, arith}
+use Rattle.std.proofs.Common.{◌≡◌, ◌<◌, ℕ, length, sym, ap, ◌∙◌, arith}
 use Rattle.std.proofs.lemmas.Bool.{false≢true}
 use Rattle.lin_text.specs.Lines.{line_from, line_below}
-use Rattle.lin_text.specs.Pieces.{word, line_end}
+use Rattle.lin_text.specs.Pieces.{word}
 use Rattle.session_text.specs.declared.class.Class.{Class}
 use Rattle.session_text.specs.Words.{token_at, second_at, end_word, IsWordLine}
 use Rattle.session_text.specs.Classes.{class_of, refusal_kind}

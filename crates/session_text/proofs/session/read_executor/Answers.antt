@@ -1,13 +1,12 @@
-use Rattle.std.proofs.Common.{◌≡◌, ◌+◌, ℕ, refl, sym, subst, ap, ◌∙◌}
+use Rattle.std.proofs.Common.{◌≡◌, ◌+◌, ℕ, sym, subst, ap, ◌∙◌}
 use Rattle.lin_text.specs.declared.fault.SessionKind.TheVariants.{TooManyExecutors}
 use Rattle.lin_text.specs.Lines.{line_from, line_below}
-use Rattle.lin_text.specs.Pieces.{line_end}
 use Rattle.session_text.specs.declared.refusal.Fault.{Fault}
 use Rattle.session_text.specs.declared.refusal.Counts.{Counts}
 use Rattle.session_text.specs.declared.refusal.ReadError.TheVariants as errors
 use Rattle.session_text.specs.Words.{token_at, second_at, executor_word, IsWordLine}
 use Rattle.session_text.specs.Classes.{class_of, refusal_kind}
-use Rattle.session_text.specs.Faults.{Seen, executor}
+use Rattle.session_text.specs.Faults.{executor}
 use Rattle.session_text.specs.Reading.{seen_with, part_after}
 use Rattle.session_text.proofs.FirstFaults.{Leads}
 use Rattle.session_text.proofs.WordLines.{between-no_query, between-executor, Leads-executor}

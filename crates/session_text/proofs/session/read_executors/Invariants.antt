@@ -1,4 +1,4 @@
-use Rattle.std.proofs.Common.{◌≡◌, ◌+◌, ◌-◌, ◌≤◌, length}
+use Rattle.std.proofs.Common.{◌≡◌, ◌-◌, ◌≤◌, length}
 use Rattle.std.specs.Prelude.{sum_by}
 use Rattle.lin_text.specs.Lines.{StartsLine, line_from}
 use Rattle.lin_text.specs.Pieces.{word}
@@ -15,7 +15,7 @@ invariant-loop-alloc l = record {
   queries : l.counts.queries ≡ sum_by length l.scripts.items;
   few_executors : l.counts.executors ≤ 64;
   few_queries : l.counts.queries ≤ 100000;
-  no_query : (token_at l.bytes (line_from l.bytes l.stop)).piece ≡ word query_word → l.counts.executors ≡ 0
+  no_query : (token_at l.bytes (line_from l.bytes l.stop)).piece ≡ word query_word → l.counts.executors ≡ 0;
 }
 
 abbrev pub decreases-loop-alloc : goal.decreases-loop-alloc

@@ -1,7 +1,6 @@
-use Rattle.std.proofs.Common.{◌≡◌, ◌<◌, ℕ, length, refl, ap, ◌∙◌, arith}
+use Rattle.std.proofs.Common.{◌<◌, length, refl, ap, ◌∙◌, arith}
 use Rattle.lin_text.specs.Lines.{line_from}
 use Rattle.session_text.specs.declared.class.Class.{Class}
-use Rattle.session_text.specs.Words.{token_at}
 use Rattle.session_text.specs.Classes.{refusal_kind}
 use Rattle.session_text.specs.Faults.{ended}
 use Rattle.session_text.specs.Reading.{seen_with}

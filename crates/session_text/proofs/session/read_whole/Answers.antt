@@ -1,14 +1,12 @@
-use Rattle.std.proofs.Common.{◌≡◌, ℕ, List, length, true, false, sym, subst, ap, ◌∙◌, arith}
+use Rattle.std.proofs.Common.{ℕ, sym, subst, ap, ◌∙◌, arith}
 use Rattle.std.proofs.lemmas.Bool.{false≢true}
 use Rattle.lin_text.specs.declared.fault.SessionKind.{SessionKind}
 use Rattle.lin_text.specs.declared.fault.SessionKind.TheVariants.{BadHeader}
-use Rattle.lin_text.specs.Lines.{line_from, line_below}
+use Rattle.lin_text.specs.Lines.{line_below}
 use Rattle.session_text.specs.declared.refusal.Fault.{Fault}
 use Rattle.session_text.specs.declared.refusal.ReadError.TheVariants as errors
 use Rattle.session_text.specs.Words.{token_at, IsHeader}
-use Rattle.session_text.specs.Sessions.{body_of}
 use Rattle.session_text.specs.Faults.{Seen, nothing_seen, HasFault}
-use Rattle.session_text.specs.Reading.{seen_with, part_after}
 use Rattle.session_text.proofs.FirstFaults.{Leads}
 use Rattle.session_text.proofs.WordLines.{Leads-executors}
 use Rattle.session_text.proofs.Wholes.{bad_header}
