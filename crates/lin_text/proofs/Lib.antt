@@ -18,23 +18,23 @@ pub mod QueryLines
 pub mod QueryReads
 pub mod OneFault
 mod SmallLemmas
-mod ReadBackTokens
+pub mod ReadBackTokens
 mod ReadBackWords
 mod ReadBackSides
 mod ReadBackLines
-mod ReadBackFront
+pub mod ReadBackFront
 mod ReadBack
-mod ReadBackWithin
-mod SpelledConditions
-mod UniqueTokens
+pub mod ReadBackWithin
+pub mod SpelledConditions
+pub mod UniqueTokens
 mod UniqueSides
 mod UniqueTerms
-mod Unique
+pub mod Unique
 mod NoFaultTokens
 mod NoFaultSides
 mod NoFaultLines
 mod NoFaultCompared
 mod NoFaultDeclared
-mod NoFault
+pub mod NoFault
 mod Longest
-mod SpelledOrFault
+pub mod SpelledOrFault

@@ -1,9 +1,12 @@
 -- Runs at the front of a list, its first byte, and the lines that are skipped.
-use Rattle.std.proofs.Common.{◌≡◌, ℕ, ◌+◌, ◌<◌, ◌≤◌, min, Bool, true, false, cond, not, List, [], ◌∷◌, length, drop, get_or, nat_eq, suc, add-zero, refl, sym, ap, ◌∙◌, arith, length-drop}
+use Rattle.std.proofs.Common.{◌≡◌, ℕ, ◌+◌, ◌<◌, ◌≤◌, min, Bool, true, false, cond, not, List, [], ◌∷◌, length, drop, get_or, nat_eq, suc, add-zero, refl, sym, ap, ◌∙◌, arith, length-drop, nat_lt, ◌-◌, inl, inr}
 use Rattle.std.specs.Prelude.{◌||◌, ◌&&◌}
 use Rattle.std.specs.List.{prefix_len}
-use Rattle.std.proofs.lemmas.List.{at_drop_more, at_drop_all, drop-drop}
-use Rattle.lin_text.specs.Lines.{is_feed, is_in_line, ends_or_comments, is_skipped, first_line, line_from, line_below}
+use Rattle.std.proofs.lemmas.List.{at_drop_more, at_drop_all, drop-drop, get_or-drop}
+use Rattle.std.proofs.lemmas.List.Sums.{prefix_len_stops}
+use Rattle.std.proofs.lemmas.Bool.Decides.{nat_tests}
+use borrow.Author.Tests.{ltb-true, ltb-false}
+use Rattle.lin_text.specs.Lines.{is_feed, is_in_line, ends_or_comments, is_skipped, first_line, line_from, line_below, StartsLine}
 use Rattle.lin_text.specs.Tokens.{begins_equal, token_length, kind_of, nothing_at, token_of, token_here}
 use Rattle.lin_text.specs.declared.token.TokenKind.{TokenKind}
 use Rattle.lin_text.specs.declared.token.TokenKind.TheVariants.{LineEnd}
@@ -91,3 +94,24 @@ line_from-end bytes at le = at_drop_all (first_line true at) bytes at le
 
 pub line_from-here : (bytes rest : List ℕ) (at : ℕ) → rest ≡ drop at bytes → is_skipped rest ≡ false → line_from bytes at ≡ at
 line_from-here bytes rest at from e = first_line-here at (drop at bytes) (ap is_skipped (sym from) ∙ e)
+
+-- what isn't within a line is a line feed
+not_in_line : (b : ℕ) → is_in_line b ≡ false → b ≡ 10
+not_in_line b e = grind (arith, nat_tests)
+
+-- below a line a line starts
+pub line_below_starts : (bytes : List ℕ) (at : ℕ) → at ≤ length bytes → StartsLine bytes (line_below bytes at)
+line_below_starts bytes at within =
+    let n : ℕ = prefix_len is_in_line (drop at bytes) in
+    let most : n ≤ length (drop at bytes) = prefix_len-le is_in_line (drop at bytes) in
+    elim (nat_lt (at + n) (length bytes)) as (λ b. nat_lt (at + n) (length bytes) ≡ b → StartsLine bytes (line_below bytes at)) [
+      | true ↦ λ e.
+          let lt : at + n < length bytes = ltb-true (at + n) (length bytes) e in
+          let less : n < length (drop at bytes) = omega (arith, length-drop at bytes) in
+          let feed : get_or bytes (at + n) 0 ≡ 10 = sym (get_or-drop at bytes n 0) ∙ not_in_line (get_or (drop at bytes) n 0) (prefix_len_stops is_in_line (drop at bytes) 0 less) in
+          let place : line_below bytes at - 1 ≡ at + n = omega arith in
+          record { within = omega arith; begins = inr (inr (ap (λ (k : ℕ). get_or bytes k 0) place ∙ feed)) }
+      | false ↦ λ e.
+          let ge : length bytes ≤ at + n = ltb-false (at + n) (length bytes) e in
+          record { within = omega arith; begins = inr (inl (omega arith)) }
+    ] refl

@@ -36,7 +36,8 @@ no_stand above line below vars atoms front p after kind fits split shown stands 
         (omega (arith, split.atom_lines, fits.few_atoms, ap length all, length-append split.atoms_above (a ∷ more)))
         stands
 
-Spell-no_fault : (lines : List PlainLine) (q : PlainCondition) (kind : TextKind) (place : ℕ) → Spell lines q → StandsAt lines kind place → ⊥
+-- no fault stands in the lines of what is spelled
+pub Spell-no_fault : (lines : List PlainLine) (q : PlainCondition) (kind : TextKind) (place : ℕ) → Spell lines q → StandsAt lines kind place → ⊥
 Spell-no_fault lines q kind place s f =
     no_stand f.above f.line f.below q.vars q.atoms (pieces f.front) f.token.piece (pieces f.after) kind s.fits
     (parts [] f.above (f.line ∷ f.below) q.vars q.atoms (subst (λ (ls : List PlainLine). AreDeclaredAndCompared [] ls q.vars q.atoms) f.in_lines s.meaning))

@@ -262,7 +262,7 @@ spelled_at_word p bytes from at q got fits lt ts are word_first =
 -- the first fault
 
 -- where a list is parted twice
-parted : {X : Type 0} (xs ys : List X) (x : X) (us vs : List X) (u : X) → xs ++ x ∷ ys ≡ us ++ u ∷ vs → ((mid : List X) × (us ≡ xs ++ x ∷ mid) × (ys ≡ mid ++ u ∷ vs)) ⊎ ((xs ≡ us) × (x ≡ u) × (ys ≡ vs)) ⊎ ((mid : List X) × (xs ≡ us ++ u ∷ mid) × (vs ≡ mid ++ x ∷ ys))
+pub parted : {X : Type 0} (xs ys : List X) (x : X) (us vs : List X) (u : X) → xs ++ x ∷ ys ≡ us ++ u ∷ vs → ((mid : List X) × (us ≡ xs ++ x ∷ mid) × (ys ≡ mid ++ u ∷ vs)) ⊎ ((xs ≡ us) × (x ≡ u) × (ys ≡ vs)) ⊎ ((mid : List X) × (xs ≡ us ++ u ∷ mid) × (vs ≡ mid ++ x ∷ ys))
 parted [] ys x [] vs u e = inr (inl (refl, cc, cc))
 parted {X} [] ys x (w ∷ us) vs u e = inl (us, (let same : w ≡ x = cc in ap (λ (y : X). y ∷ us) same), cc)
 parted {X} (w ∷ xs) ys x [] vs u e = inr (inr (xs, (let same : w ≡ u = cc in ap (λ (y : X). y ∷ xs) same), cc))

@@ -25,9 +25,10 @@ pub use laws::{
     one_first_fault, spelled_has_no_fault, spelled_once, spelled_or_faulty, tokens_are_longest,
     written_is_spelled, written_is_spelled_within,
 };
-pub use lines::next_line;
+pub use lines::{column, line_below, line_number, next_line};
 pub use push::{push_integer, push_number, push_str};
-pub use query::read_query;
+pub use query::{read_lines, read_query};
+pub use refusal::{Fault, ReadError};
 pub use small::read_small;
 pub use token::{Token, TokenKind, next_token};
-pub use write::write_query;
+pub use write::{push_query, write_query};

@@ -19,6 +19,7 @@ pub fn line_below(bytes: &[u8], at: usize) -> usize
     ensures start { result ≡ line_below bytes.now at }
     ensures within { result ≤ length bytes.now }
     ensures further { at < length bytes.now → at < result }
+    ensures starts { StartsLine bytes.now result }
 {
     let end = at + run_length(Run::Line, bytes_from(bytes, at));
     if end < bytes.len() {
@@ -34,6 +35,7 @@ pub fn first_line(bytes: &[u8], at: usize) -> usize
     ensures start { result ≡ line_from bytes.now at }
     ensures within { result ≤ length bytes.now }
     ensures ahead { at ≤ result }
+    ensures keeps { StartsLine bytes.now at → StartsLine bytes.now result }
 {
     let mut start = at;
     while start < bytes.len() && is_skipped(bytes_from(bytes, start)) {
@@ -47,7 +49,9 @@ pub fn first_line(bytes: &[u8], at: usize) -> usize
 /// with a line feed or with the input.
 pub fn next_line(bytes: &[u8], at: usize) -> usize
     requires { StartsLine bytes.now at }
-    ensures { result ≡ line_from bytes.now at }
+    ensures start { result ≡ line_from bytes.now at }
+    ensures within { result ≤ length bytes.now }
+    ensures starts { StartsLine bytes.now result }
 {
     first_line(bytes, at)
 }

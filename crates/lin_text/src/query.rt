@@ -20,8 +20,9 @@ fn is_word(class: Class) -> bool
     matches!(class, Class::Word)
 }
 
-/// Reads the lines of a query from `start` on.
-fn read_lines(
+/// Reads the lines of a query from `start` on, as `read_query` does, and tells a fault by its place among
+/// the bytes.
+pub fn read_lines(
     alloc: Global,
     bytes: &[u8],
     in_proof: bool,
@@ -30,6 +31,7 @@ fn read_lines(
     requires { start ≤ length bytes.now }
     ensures read { IfOk result (λ r. Spells in_proof bytes.now start r.0 r.1) }
     ensures fault { IfErr result (IsReadError in_proof bytes.now start) }
+    ensures starts { StartsLine bytes.now start → IfOk result (λ r. StartsLine bytes.now r.1) }
 {
     let mut query = Draft::new(alloc);
     let mut at = first_line(bytes, start);
@@ -60,6 +62,7 @@ pub fn read_query(
     requires { StartsLine bytes.now at }
     ensures read { IfOk result (λ r. Spells in_proof bytes.now at r.0 r.1) }
     ensures fault { IfErr result (IsFault in_proof bytes.now at) }
+    ensures starts { IfOk result (λ r. StartsLine bytes.now r.1) }
 {
     match read_lines(alloc, bytes, in_proof, at) {
         Ok(read) => Ok(read),

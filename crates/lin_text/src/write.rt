@@ -9,14 +9,21 @@ use std::alloc::Global;
 
 /// The plain spelling of a condition: each declaration `var NAME LO HI`, and then each comparison
 /// `LEFT CMP RIGHT`, in order, each on a line of its own that a line feed ends.
-#[tactic(auto, unfolding(crate::specs::Spelling::condition_text))]
 pub fn write_query(alloc: Global, c: &Condition) -> Result<Vec<u8>, NoMemory>
     ensures { IfOk result (λ text. text.items ≡ condition_text c.now) }
 {
     let mut out = Vec::new(alloc);
-    push_vars(&mut out, c.vars())?;
-    push_atoms(&mut out, c.vars(), c.atoms())?;
+    push_query(&mut out, c)?;
     Ok(out)
+}
+
+/// Adds the plain spelling of a condition at the end.
+#[tactic(auto, unfolding(crate::specs::Spelling::condition_text))]
+pub fn push_query(out: &mut Vec<u8>, c: &Condition) -> Result<(), NoMemory>
+    ensures { OnOk result (out.new.items ≡ out.old.items ++ condition_text c.now) }
+{
+    push_vars(out, c.vars())?;
+    push_atoms(out, c.vars(), c.atoms())
 }
 
 fn push_vars(out: &mut Vec<u8>, vars: &[Var]) -> Result<(), NoMemory>

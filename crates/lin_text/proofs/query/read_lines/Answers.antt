@@ -11,6 +11,7 @@ loop-at-init c = record {
   read =
       subst (λ (at : ℕ). ReadTo c.args.in_proof c.args.bytes.now c.args.start at c.new-query.result) (sym c.first_line-at.ensures.start)
       (subst (λ (q : PlainCondition). ReadTo c.args.in_proof c.args.bytes.now c.args.start (line_from c.args.bytes.now c.args.start) q) (sym c.new-query.ensures) (read_none c.args.in_proof c.args.bytes.now c.args.start));
+  starts = c.first_line-at.ensures.keeps;
 }
 
 pub into_condition-requires-clause-in_range : goal.into_condition-requires-clause-in_range
@@ -33,6 +34,7 @@ loop-at-preserved c = record {
   read =
       subst (λ (at : ℕ). ReadTo c.args.in_proof c.args.bytes.now c.args.start at c.in_ok-query.query) (sym (c.first_line-at-in-loop-at.ensures.start ∙ ap (line_from c.args.bytes.now) c.line_below.ensures.start))
       (at_line c.args.in_proof c.args.bytes.now c.args.start c.loop-at.at c.loop-at.query c.loop-at.invariant.read c.loop-at-test.true c.next_lexeme-first.result c.next_lexeme-first.ensures.shown (sym c.is_word.ensures ∙ c.if-is_word.false) c.in_ok-query.query c.in_ok-query.ensures);
+  starts = λ h. c.first_line-at-in-loop-at.ensures.keeps c.line_below.ensures.starts;
 }
 
 pub into_condition-requires-2-clause-in_range : goal.into_condition-requires-2-clause-in_range

@@ -1,0 +1,6 @@
+-- What is written is spelled.
+use Rattle.session_text.proofs.SessionWritten.{SpellsSession-written}
+use Rattle.session_text.proofs.laws.written_is_spelled.Goals as goal
+
+pub returns : goal.returns
+returns c = SpellsSession-written

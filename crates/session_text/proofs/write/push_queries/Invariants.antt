@@ -1,0 +1,7 @@
+use Rattle.std.proofs.Common.{◌≡◌, ◌++◌, take, flat_map}
+use Rattle.lin_text.specs.Spelling.{query_text}
+use Rattle.session_text.proofs.write.push_queries.Given as goal
+
+-- the queries so far are written
+abbrev pub invariant-loop-query : goal.invariant-loop-query
+invariant-loop-query l = l.out.items ≡ l.fn.out.items ++ flat_map query_text (take l.query-index l.queries)

@@ -1,0 +1,159 @@
+-- The faults of a session's text: at which tokens each kind stands, and which fault is answered.
+use Rattle.std.specs.Prelude.{◌≡◌, ◌≢◌, ℕ, ◌+◌, ◌<◌, ◌≤◌, Bool, false, ◌⊎◌, List, [], ◌∷◌, ◌++◌, length, count_by, bytes_eq, Option, Some, None, MatchOption, if◌then◌else◌}
+use Rattle.lin_text.specs.declared.fault.TextKind.{TextKind}
+use Rattle.lin_text.specs.declared.fault.TextKind.TheVariants as texts
+use Rattle.lin_text.specs.declared.fault.SessionKind.{SessionKind}
+use Rattle.lin_text.specs.declared.fault.SessionKind.TheVariants.{BadHeader, TooManyExecutors, TooManyQueries, NoEnd, Token, Syntax, NumberTooLarge, UnknownName, NameTwice, EmptyRange, TooManyVars, TooManyAtoms, TooManyTerms, NoMemory}
+use Rattle.lin_text.specs.Lines.{line_from}
+use Rattle.lin_text.specs.Pieces.{Piece, word, bad, line_end, PlainToken, PlainLine, pieces, AreLines}
+use Rattle.lin_text.specs.Faults.{Stands}
+use Rattle.lin_text.specs.Queries.{begins_word}
+use Rattle.session_text.specs.Words.{executor_word, query_word, end_word, token_at, IsHeader}
+use Rattle.session_text.specs.Sessions.{body_of}
+
+-- what came last above a line: the header, an executor line, a query line and these lines of the query, or the end line
+pub data Part : Type 0 where
+  header : Part
+  executor : Part
+  query : List PlainLine → Part
+  ended : Part
+
+-- what came above a line: the part, and how often the words `executor` and `query` came, wherever they stood
+pub record Seen : Type 0 where
+  pub part : Part
+  pub executors : ℕ
+  pub queries : ℕ
+
+abbrev pub is_the_word : List ℕ → Piece → Bool
+is_the_word w (word x) = bytes_eq x w
+is_the_word w _ = false
+
+-- how many of the tokens are this word
+abbrev pub count_of : List ℕ → List Piece → ℕ
+count_of w = count_by (is_the_word w)
+
+-- the word with which the tokens begin
+abbrev pub first_word : List Piece → List ℕ
+first_word (word w ∷ ps) = w
+first_word _ = []
+
+-- the part below a line that begins with a word; nothing may come below the end line, nor below another word, at which a fault stands
+abbrev pub part_of_word : List ℕ → Part
+part_of_word w = if bytes_eq w executor_word then executor else (if bytes_eq w query_word then query [] else ended)
+
+-- the part below another line
+abbrev pub part_with : Part → PlainLine → Part
+part_with (query above) line = query (above ++ line ∷ [])
+part_with part line = part
+
+abbrev pub part_below : Part → PlainLine → Part
+part_below part line = if begins_word (pieces line.tokens) then part_of_word (first_word (pieces line.tokens)) else part_with part line
+
+-- what was seen above the line below
+abbrev pub seen_below : Seen → PlainLine → Seen
+seen_below seen line = record {
+  part = part_below seen.part line;
+  executors = seen.executors + count_of executor_word (pieces line.tokens);
+  queries = seen.queries + count_of query_word (pieces line.tokens);
+}
+
+-- the words that may begin a line of the session's own
+abbrev pub MayBegin : Part → List ℕ → Type 0
+MayBegin header w = (w ≡ executor_word) ⊎ (w ≡ end_word)
+MayBegin executor w = (w ≡ executor_word) ⊎ (w ≡ query_word) ⊎ (w ≡ end_word)
+MayBegin (query above) w = (w ≡ executor_word) ⊎ (w ≡ query_word) ⊎ (w ≡ end_word)
+MayBegin ended w = ⊥
+
+-- the tokens begin a line of the session's own that may come: a word, and the line's end
+pub record CanCome (part : Part) (ps : List Piece) : Type 0 where
+  pub w : List ℕ
+  pub may : MayBegin part w
+  pub more : List Piece
+  pub written : word w ∷ line_end ∷ [] ≡ ps ++ more
+
+-- the lines of the query above a line, where the line belongs to a query: no reserved word but `var` begins it
+abbrev pub query_above : Part → List Piece → Option (List PlainLine)
+query_above (query above) ps = if begins_word ps then None else Some above
+query_above part ps = None
+
+abbrev pub session_kind : TextKind → SessionKind
+session_kind texts.Token = Token
+session_kind texts.Syntax = Syntax
+session_kind texts.NumberTooLarge = NumberTooLarge
+session_kind texts.UnknownName = UnknownName
+session_kind texts.NameTwice = NameTwice
+session_kind texts.EmptyRange = EmptyRange
+session_kind texts.TooManyVars = TooManyVars
+session_kind texts.TooManyAtoms = TooManyAtoms
+session_kind texts.TooManyTerms = TooManyTerms
+session_kind texts.NoMemory = NoMemory
+
+-- the token `p` is the 65th word `executor` or the 100,001st word `query`; these are the tokens before it on its line
+abbrev pub IsOneTooMany : Seen → List Piece → Piece → SessionKind → Type 0
+IsOneTooMany seen front p kind =
+    ((kind ≡ TooManyExecutors) × (p ≡ word executor_word) × (seen.executors + count_of executor_word front ≡ 64))
+    ⊎ ((kind ≡ TooManyQueries) × (p ≡ word query_word) × (seen.queries + count_of query_word front ≡ 100000))
+
+-- the token is none, or can't come next in a line of the session's own
+abbrev pub CantCome : Part → List Piece → Piece → SessionKind → Type 0
+CantCome part front p kind = ((kind ≡ Token) × (p ≡ bad)) ⊎ ((kind ≡ Syntax) × ¬ CanCome part (front ++ p ∷ []))
+
+-- a fault of a query's text, below these lines of the query
+abbrev pub IsOfQuery : List PlainLine → List Piece → Piece → List Piece → SessionKind → Type 0
+IsOfQuery above front p after kind = (k : TextKind) × (kind ≡ session_kind k) × Stands above front p after k
+
+-- a fault of the kind stands at this place of a line
+pub record StandsInLine (seen : Seen) (line : PlainLine) (kind : SessionKind) (at : ℕ) : Type 0 where
+  pub front : List PlainToken
+  pub token : PlainToken
+  pub after : List PlainToken
+  pub in_line : line.tokens ≡ front ++ token ∷ after
+  pub place : at ≡ token.from
+  pub stands : IsOneTooMany seen (pieces front) token.piece kind ⊎ MatchOption (query_above seen.part (pieces line.tokens)) (CantCome seen.part (pieces front) token.piece kind) (λ above. IsOfQuery above (pieces front) token.piece (pieces after) kind)
+
+-- a fault of the kind stands at this place of the lines, or at the input's end, where no end line came
+abbrev pub StandsIn : List ℕ → Seen → List PlainLine → SessionKind → ℕ → Type 0
+StandsIn bytes seen [] kind at = (kind ≡ NoEnd) × (at ≡ length bytes) × (seen.part ≢ ended)
+StandsIn bytes seen (line ∷ lines) kind at = StandsInLine seen line kind at ⊎ StandsIn bytes (seen_below seen line) lines kind at
+
+-- below the header nothing was seen
+abbrev pub nothing_seen : Seen
+nothing_seen = record { part = header; executors = 0; queries = 0 }
+
+-- The first line isn't the header: the fault stands at its first byte that isn't blank, or at the input's end where there is no line. Whatever else may be wrong with that line stands there or behind.
+pub record IsBadHeader (bytes : List ℕ) (kind : SessionKind) (at : ℕ) : Type 0 where
+  pub other : ¬ IsHeader bytes (line_from bytes 0)
+  pub is : kind ≡ BadHeader
+  pub place : at ≡ (token_at bytes (line_from bytes 0)).from
+
+-- a fault of the kind stands at this place of the text, which has these lines below the first
+abbrev pub StandsAt : List ℕ → List PlainLine → SessionKind → ℕ → Type 0
+StandsAt bytes lines kind at = IsBadHeader bytes kind at ⊎ StandsIn bytes nothing_seen lines kind at
+
+-- the order of the kinds at one place
+abbrev pub rank : SessionKind → ℕ
+rank BadHeader = 0
+rank TooManyExecutors = 1
+rank TooManyQueries = 2
+rank TooManyVars = 3
+rank TooManyAtoms = 4
+rank TooManyTerms = 5
+rank Token = 6
+rank Syntax = 7
+rank NumberTooLarge = 8
+rank UnknownName = 9
+rank NameTwice = 10
+rank EmptyRange = 11
+rank NoMemory = 12
+rank NoEnd = 13
+
+-- of these faults it is the one that is answered: none stands at a place before it, and none that goes before it at its place
+pub record IsFirst (Fault : SessionKind → ℕ → Type 0) (kind : SessionKind) (at : ℕ) : Type 0 where
+  pub stands : Fault kind at
+  pub least : (k : SessionKind) (p : ℕ) → Fault k p → (at < p) ⊎ ((at ≡ p) × (rank kind ≤ rank k))
+
+-- the fault of a text
+pub record HasFault (bytes : List ℕ) (kind : SessionKind) (place : ℕ) : Type 0 where
+  pub lines : List PlainLine
+  pub are : AreLines false bytes (body_of bytes) lines
+  pub first : IsFirst (StandsAt bytes lines) kind place

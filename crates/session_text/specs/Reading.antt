@@ -1,0 +1,32 @@
+-- What the reader of a session answers for the text from a place on.
+use Rattle.std.specs.Prelude.{ℕ, ◌==◌, false, List, if◌then◌else◌}
+use Rattle.lin_text.specs.declared.fault.SessionKind.{SessionKind}
+use Rattle.lin_text.specs.Pieces.{PlainLine, AreLines}
+use Rattle.session_text.specs.declared.refusal.Counts.{Counts}
+use Rattle.session_text.specs.declared.refusal.ReadError.{ReadError}
+use Rattle.session_text.specs.declared.refusal.ReadError.TheVariants as errors
+use Rattle.session_text.specs.Faults.{Part, header, executor, Seen, StandsIn, IsFirst, HasFault}
+
+-- the fault of the lines from a place on, above which so much was seen
+pub record HasFaultFrom (seen : Seen) (bytes : List ℕ) (at : ℕ) (kind : SessionKind) (place : ℕ) : Type 0 where
+  pub lines : List PlainLine
+  pub are : AreLines false bytes at lines
+  pub first : IsFirst (StandsIn bytes seen lines) kind place
+
+-- memory ran out, or it is that fault
+abbrev pub IsReadError : Seen → List ℕ → ℕ → ReadError → Type 0
+IsReadError seen bytes at errors.Memory = Unit {0}
+IsReadError seen bytes at (errors.Fault f) = HasFaultFrom seen bytes at f.kind f.at
+
+-- what was seen, by what came last and how often the words came
+abbrev pub seen_with : Part → Counts → Seen
+seen_with part counts = record { part = part; executors = counts.executors; queries = counts.queries }
+
+-- what came last above a line that neither belongs to a query nor comes behind the end line
+abbrev pub part_after : ℕ → Part
+part_after executors = if executors == 0 then header else executor
+
+-- memory ran out, or it is the fault of the whole text
+abbrev pub IsSessionError : List ℕ → ReadError → Type 0
+IsSessionError bytes errors.Memory = Unit {0}
+IsSessionError bytes (errors.Fault f) = HasFault bytes f.kind f.at
