@@ -21,3 +21,6 @@ mod CanonisedLemmas
 mod SelectLemmas
 mod SameKeyLemmas
 mod RepeatLemmas
+mod RenumberedLemmas
+mod NamedLemmas
+mod RenumberingLemmas

@@ -16,4 +16,4 @@ mod strongest;
 pub use back::Back;
 pub use canonical::Canonical;
 pub use keys::canonise;
-pub use laws::repeating_keeps_keys;
+pub use laws::{renumbering_keeps_keys, repeating_keeps_keys};
