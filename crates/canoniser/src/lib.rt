@@ -3,10 +3,11 @@
 
 mod back;
 mod canonical;
-mod gathered;
 mod laws;
+mod linear;
 mod numbering;
 mod outcome;
+mod side;
 
 pub use back::Back;
 pub use canonical::Canonical;
