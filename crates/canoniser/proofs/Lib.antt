@@ -7,4 +7,7 @@ mod SideLemmas
 mod MeaningLemmas
 mod CanonicalLemmas
 mod PossibleLemmas
+mod ScalingLemmas
+mod ScaledOutcomes
+mod ScaledConditions
 mod Worked

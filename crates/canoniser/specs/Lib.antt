@@ -5,3 +5,4 @@ pub mod Keys
 pub mod Solutions
 pub mod Limits
 pub mod Meaning
+pub mod Laws

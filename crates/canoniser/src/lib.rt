@@ -11,4 +11,4 @@ mod side;
 
 pub use back::Back;
 pub use canonical::Canonical;
-pub use laws::probe;
+pub use laws::keys_ignore_factors;

@@ -1,0 +1,32 @@
+-- What a key doesn't depend on.
+use Rattle.std.specs.Prelude.{◌≡◌, ℕ, ◌<◌, pos, ◌*ℤ◌, List, map}
+use Rattle.std.specs.List.{AllZip}
+use Rattle.lin_model.specs.Terms.{PlainTerm}
+use Rattle.lin_model.specs.Conditions.{PlainCondition}
+use Rattle.lin_model.specs.declared.atom.Atom.{Atom}
+use Rattle.lin_model.specs.KeyAtom.{PlainKeyAtom}
+use Rattle.slicer.specs.Slices.{PlainSlice}
+use Rattle.canoniser.specs.Keys.{IsKeyOf}
+
+-- every term of a side times m
+abbrev pub times_side : ℕ → List PlainTerm → List PlainTerm
+times_side m terms = map (λ t. record { factor = pos m *ℤ t.factor; var = t.var }) terms
+
+-- both sides of an atom times m
+abbrev pub times : ℕ → Atom → Atom
+times m atom = record { left = times_side m atom.left; cmp = atom.cmp; right = times_side m atom.right }
+
+-- both sides of the atom times a positive number
+pub record IsMultiple (atom other : Atom) : Type 0 where
+  pub factor : ℕ
+  pub positive : 0 < factor
+  pub product : other ≡ times factor atom
+
+-- the same condition, but for positive factors of its atoms' sides
+pub record IsScaled (c d : PlainCondition) : Type 0 where
+  pub vars : d.vars ≡ c.vars
+  pub atoms : AllZip IsMultiple c.atoms d.atoms
+
+-- a slice keeps its key where both sides of atoms are multiplied by positive numbers
+abbrev pub KeysIgnoreFactors : Type 0
+KeysIgnoreFactors = (c d : PlainCondition) (s : PlainSlice) (key : List PlainKeyAtom) → IsScaled c d → IsKeyOf c s key → IsKeyOf d s key
