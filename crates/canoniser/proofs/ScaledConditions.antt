@@ -13,7 +13,7 @@ use Rattle.slicer.specs.Slices.{PlainSlice}
 use Rattle.canoniser.specs.Numbering.{first_ones, atoms_of, order_of}
 use Rattle.canoniser.specs.Forms.{Outcome, never, says, ComesTo}
 use Rattle.canoniser.specs.Keys.{IsKeyOf, IsGiven, IsStrongest, upper_atom, lower_atom}
-use Rattle.canoniser.specs.Laws.{IsMultiple, IsScaled}
+use Rattle.canoniser.specs.Factors.{IsMultiple, IsScaled}
 use Rattle.canoniser.proofs.ScalingLemmas.{atom_vars-times}
 use Rattle.canoniser.proofs.ScaledOutcomes.{ComesTo-times}
 
@@ -63,11 +63,12 @@ comes order outcome a b is =
 
 -- ---- what holds of some or of all
 
-all_across : (P Q : Atom → Type 0) (xs ys : List Atom) → ((a b : Atom) → IsMultiple a b → P a → Q b) → AllZip IsMultiple xs ys → All P xs → All Q ys
-all_across P Q xs ys across pairs all k d within =
-    let same = length_all_zip IsMultiple xs ys pairs in
-    let lt : k < length xs = omega arith in
-    across (get_or xs k d) (get_or ys k d) (AllZip-get_or IsMultiple xs ys k d d pairs lt) (all k d lt)
+all_across : (P Q : Atom → Type 0) (xs ys : List Atom) → ((a b : Atom) → IsMultiple a b → P a ↔ Q b) → AllZip IsMultiple xs ys → All P xs ↔ All Q ys
+all_across P Q xs ys across pairs =
+    let same = length_all_zip IsMultiple xs ys pairs in (
+      λ all k d within. let lt : k < length xs = omega arith in (across (get_or xs k d) (get_or ys k d) (AllZip-get_or IsMultiple xs ys k d d pairs lt)).0 (all k d lt),
+      λ all k d within. let lt : k < length ys = omega arith in (across (get_or xs k d) (get_or ys k d) (AllZip-get_or IsMultiple xs ys k d d pairs within)).1 (all k d lt),
+    )
 
 any_across : (P Q : Atom → Type 0) (xs ys : List Atom) → ((a b : Atom) → IsMultiple a b → P a ↔ Q b) → AllZip IsMultiple xs ys → Any P xs ↔ Any Q ys
 any_across P Q xs ys across pairs =
@@ -108,13 +109,22 @@ strongest_same G H a same = (
   λ is. record { one = (same a).1 is.one; alone = λ b given implies. is.alone b ((same b).0 given) implies },
 )
 
-pub IsKeyOf-scaled : (c d : PlainCondition) (s : PlainSlice) (key : List PlainKeyAtom) → IsScaled c d → IsKeyOf c s key → IsKeyOf d s key
-IsKeyOf-scaled c d s key scaled is =
+pub IsKeyOf-scaled : (c d : PlainCondition) (s : PlainSlice) (key : List PlainKeyAtom) → IsScaled c d → IsKeyOf c s key ↔ IsKeyOf d s key
+IsKeyOf-scaled c d s key scaled =
     let pairs = picked c.atoms d.atoms scaled.atoms s.atoms in
-    let order = same_order c d s pairs in record {
-      defined = subst (λ o. All (λ atom. ¬ ComesTo o atom never) (atoms_of d s)) (sym order) (all_across (λ atom. ¬ ComesTo (order_of c s) atom never) (λ atom. ¬ ComesTo (order_of c s) atom never) (atoms_of c s) (atoms_of d s) (λ a b multiple not_a comes_b. not_a ((comes (order_of c s) never a b multiple).1 comes_b)) pairs is.defined);
-      ascends = is.ascends;
-      just = λ a.
-          let same = strongest_same (IsGiven c s) (IsGiven d s) a (λ b. given_same c d s b scaled pairs) in
-          (λ has. same.0 ((is.just a).0 has), λ strongest. (is.just a).1 (same.1 strongest));
-    }
+    let order = order_of c s in
+    let same = same_order c d s pairs in
+    let P : Atom → Type 0 = λ atom. ¬ ComesTo order atom never in
+    let possible = all_across P P (atoms_of c s) (atoms_of d s) (λ a b multiple. let both = comes order never a b multiple in (λ no comes_b. no (both.1 comes_b), λ no comes_a. no (both.0 comes_a))) pairs in
+    let strongest : (a : PlainKeyAtom) → IsStrongest (IsGiven c s) a ↔ IsStrongest (IsGiven d s) a = λ a. strongest_same (IsGiven c s) (IsGiven d s) a (λ b. given_same c d s b scaled pairs) in (
+      λ is. record {
+        defined = subst (λ o. All (λ atom. ¬ ComesTo o atom never) (atoms_of d s)) (sym same) (possible.0 is.defined);
+        ascends = is.ascends;
+        just = λ a. (λ has. (strongest a).0 ((is.just a).0 has), λ strong. (is.just a).1 ((strongest a).1 strong));
+      },
+      λ is. record {
+        defined = possible.1 (subst (λ o. All (λ atom. ¬ ComesTo o atom never) (atoms_of d s)) same is.defined);
+        ascends = is.ascends;
+        just = λ a. (λ has. (strongest a).1 ((is.just a).0 has), λ strong. (is.just a).1 ((strongest a).0 strong));
+      },
+    )

@@ -16,7 +16,7 @@ use Rattle.lin_model.specs.declared.op.Op.TheVariants.{Le as AtMost, Ge as AtLea
 use Rattle.slicer.specs.Names.{side_vars, atom_vars}
 use Rattle.canoniser.specs.Gathered.{is_on, factor_on, constants_of, coefficient, constant, op_of, loose}
 use Rattle.canoniser.specs.Forms.{terms_from, gathered, oriented, turned, turned_op, begins_negative}
-use Rattle.canoniser.specs.Laws.{times_side, times}
+use Rattle.canoniser.specs.Factors.{times_side, times}
 use Rattle.canoniser.proofs.Arithmetic.{distrib_left, neg_right, scale_up}
 use Rattle.canoniser.proofs.MeaningLemmas.{times_same}
 

@@ -5,4 +5,4 @@ pub mod Keys
 pub mod Solutions
 pub mod Limits
 pub mod Meaning
-pub mod Laws
+pub mod Factors

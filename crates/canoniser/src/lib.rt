@@ -3,7 +3,7 @@
 
 mod back;
 mod canonical;
-mod laws;
+mod factors;
 mod linear;
 mod numbering;
 mod outcome;
@@ -11,4 +11,4 @@ mod side;
 
 pub use back::Back;
 pub use canonical::Canonical;
-pub use laws::keys_ignore_factors;
+pub use factors::keys_ignore_factors;

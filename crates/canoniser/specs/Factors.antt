@@ -1,5 +1,5 @@
--- What a key doesn't depend on.
-use Rattle.std.specs.Prelude.{◌≡◌, ℕ, ◌<◌, pos, ◌*ℤ◌, List, map}
+-- Conditions that differ by positive factors of their atoms' sides.
+use Rattle.std.specs.Prelude.{◌≡◌, ◌↔◌, ℕ, ◌<◌, pos, ◌*ℤ◌, List, map}
 use Rattle.std.specs.List.{AllZip}
 use Rattle.lin_model.specs.Terms.{PlainTerm}
 use Rattle.lin_model.specs.Conditions.{PlainCondition}
@@ -27,6 +27,6 @@ pub record IsScaled (c d : PlainCondition) : Type 0 where
   pub vars : d.vars ≡ c.vars
   pub atoms : AllZip IsMultiple c.atoms d.atoms
 
--- a slice keeps its key where both sides of atoms are multiplied by positive numbers
+-- such conditions have the same keys
 abbrev pub KeysIgnoreFactors : Type 0
-KeysIgnoreFactors = (c d : PlainCondition) (s : PlainSlice) (key : List PlainKeyAtom) → IsScaled c d → IsKeyOf c s key → IsKeyOf d s key
+KeysIgnoreFactors = (c d : PlainCondition) (s : PlainSlice) (key : List PlainKeyAtom) → IsScaled c d → IsKeyOf c s key ↔ IsKeyOf d s key
