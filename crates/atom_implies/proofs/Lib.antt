@@ -1,2 +1,2 @@
-mod TableLemmas
+pub mod TableLemmas
 mod Worked

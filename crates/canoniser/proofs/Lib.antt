@@ -11,3 +11,16 @@ mod ScalingLemmas
 mod ScaledOutcomes
 mod ScaledConditions
 mod Worked
+mod PartLemmas
+mod ImplicationLemmas
+mod StrongestLemmas
+mod BoundLemmas
+mod Lookups
+mod SliceLemmas
+mod KeyLemmas
+mod SaidLemmas
+mod TurnLemmas
+mod CanonisedLemmas
+mod SelectLemmas
+mod SameKeyLemmas
+mod RepeatLemmas

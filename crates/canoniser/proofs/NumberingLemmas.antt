@@ -9,12 +9,13 @@ use Rattle.std.proofs.lemmas.Map.Steps.{length-le_from_distinct_below}
 use Rattle.std.proofs.lemmas.Map.Views.{Contains-from_any}
 use Rattle.lin_model.specs.Conditions.{PlainCondition, Fits}
 use Rattle.lin_model.specs.declared.atom.Atom.{Atom}
-use Rattle.slicer.specs.Names.{atom_vars, Names, NamesNothingAt}
-use Rattle.slicer.specs.Slices.{PlainSlice, IsSliceOf, IsFront, least}
-use Rattle.slicer.specs.Laws.{HasNamed, SlicesPartition}
+use Rattle.slicer.specs.Names.{atom_vars, Names}
+use Rattle.slicer.specs.Slices.{PlainSlice}
+use Rattle.slicer.specs.Laws.{HasNamed}
 use Rattle.canoniser.specs.Numbering.{first_ones, atoms_of, order_of}
 use Rattle.canoniser.specs.Keys.{IsSliceIn}
 use Rattle.canoniser.proofs.GainsLemmas.{others}
+use Rattle.canoniser.proofs.SliceLemmas.{IsWithin-slice}
 use Rattle.canoniser.proofs.SideLemmas.{Contains-head, Contains-behind, Contains-cases, distinct-tail}
 
 -- ---- which numbers the first ones are
@@ -130,11 +131,7 @@ pub order_of-names : (c : PlainCondition) (s : PlainSlice) (atom : Atom) → Con
 order_of-names c s atom among v names =
     (Contains-first_ones (flat_map atom_vars (atoms_of c s) ++ s.vars) v).1 (Contains-append_left (flat_map atom_vars (atoms_of c s)) s.vars v (Contains-flat_map atom_vars (atoms_of c s) atom v among names))
 
--- the slice of a partition has what its atoms name
-pub HasNamed-slice : (c : PlainCondition) (s : PlainSlice) → SlicesPartition → Fits c.vars c.atoms → IsSliceIn c s → HasNamed c s
-HasNamed-slice c s law fits slice =
-    All-contains (HasNamed c) slice.slices s (law c slice.slices fits slice.all).named slice.one
-
+-- and each variable of the slice
 pub order_of-vars : (c : PlainCondition) (s : PlainSlice) → HasNamed c s → (v : ℕ) → Contains (order_of c s) v ↔ Contains s.vars v
 order_of-vars c s named v =
     let all = flat_map atom_vars (atoms_of c s) in
@@ -151,29 +148,8 @@ order_of-vars c s named v =
 
 -- ---- how many they are
 
-class_below : (c : PlainCondition) (s : PlainSlice) (var : ℕ) → IsSliceOf c var s → (v : ℕ) → Contains s.vars v → v < length c.vars
-class_below c s var slice v has = ((slice.vars.just v).0 has).0
-
-front_below : (c : PlainCondition) (P : ℕ → Type 0) (front : List PlainSlice) (s : PlainSlice) → IsFront P front → Contains front s → (v : ℕ) → ¬ Contains s.vars v
-front_below c P [] s is among v has = absurd (omega (arith, among.1))
-front_below c P (t ∷ []) s is among v has =
-    elim (Contains-cases t [] s among) [
-      | inl same ↦ (let none = subst (λ (vs : List ℕ). Contains vs v) is.vars (subst (λ (x : PlainSlice). Contains x.vars v) (sym same) has) in omega (arith, none.1))
-      | inr behind ↦ absurd (omega (arith, behind.1))
-    ]
-front_below c P (t ∷ u ∷ us) s is among v has = absurd is
-
--- a slice's variables are the condition's
-pub slice_vars-below : (c : PlainCondition) (s : PlainSlice) → IsSliceIn c s → (v : ℕ) → Contains s.vars v → v < length c.vars
-slice_vars-below c s slice v has =
-    let all = slice.all in
-    elim (Contains-append_cases all.front all.classes s (subst (λ (ss : List PlainSlice). Contains ss s) all.joined slice.one)) [
-      | inl in_front ↦ absurd (front_below c (NamesNothingAt c.atoms) all.front s all.variable_free in_front v has)
-      | inr in_classes ↦ class_below c s (least s) (All-contains (λ (x : PlainSlice). IsSliceOf c (least x) x) all.classes s all.linked.each in_classes) v has
-    ]
-
 pub order_of-below : (c : PlainCondition) (s : PlainSlice) → HasNamed c s → IsSliceIn c s → (v : ℕ) → Contains (order_of c s) v → v < length c.vars
-order_of-below c s named slice v has = slice_vars-below c s slice v ((order_of-vars c s named v).0 has)
+order_of-below c s named slice v has = (IsWithin-slice c s slice).vars v ((order_of-vars c s named v).0 has)
 
 pub order_of-few : (c : PlainCondition) (s : PlainSlice) → Fits c.vars c.atoms → HasNamed c s → IsSliceIn c s → length (order_of c s) ≤ 64
 order_of-few c s fits named slice =

@@ -1,14 +1,12 @@
 -- Canonical forms by hand.
-use Rattle.std.proofs.Common.{◌≡◌, ℕ, ℤ, pos, negsuc, Option, Some, None, List, [], ◌∷◌, refl}
+use Rattle.std.proofs.Common.{◌≡◌, ℕ, ℤ, pos, negsuc, Some, None, List, [], ◌∷◌, refl}
 use Rattle.lin_model.specs.Terms.{PlainTerm}
 use Rattle.lin_model.specs.declared.atom.Atom.{Atom}
 use Rattle.lin_model.specs.declared.atom.Cmp.{Cmp}
-use Rattle.lin_model.specs.declared.atom.Cmp.TheVariants.{Le, Lt, Ge, Gt, Eq, Ne}
-use Rattle.lin_model.specs.declared.form.FormTerm.{FormTerm}
+use Rattle.lin_model.specs.declared.atom.Cmp.TheVariants.{Lt, Ne}
 use Rattle.lin_model.specs.declared.op.Op.TheVariants.{Le as AtMost, Ge as AtLeast, Eq as Equals, Ne as Differs}
-use Rattle.lin_model.specs.KeyAtom.{PlainKeyAtom}
 use Rattle.canoniser.specs.Numbering.{first_ones}
-use Rattle.canoniser.specs.Forms.{Outcome, always, never, says, gathered, oriented, reduced, alone, floor_div, ceil_div}
+use Rattle.canoniser.specs.Forms.{always, never, says, gathered, oriented, reduced, alone, floor_div, ceil_div}
 
 -- a factor on a variable, and a constant
 abbrev on : ℤ → ℕ → PlainTerm

@@ -1,12 +1,9 @@
 -- Conditions that differ by positive factors of their atoms' sides.
-use Rattle.std.specs.Prelude.{◌≡◌, ◌↔◌, ℕ, ◌<◌, pos, ◌*ℤ◌, List, map}
+use Rattle.std.specs.Prelude.{◌≡◌, ℕ, ◌<◌, pos, ◌*ℤ◌, List, map}
 use Rattle.std.specs.List.{AllZip}
 use Rattle.lin_model.specs.Terms.{PlainTerm}
 use Rattle.lin_model.specs.Conditions.{PlainCondition}
 use Rattle.lin_model.specs.declared.atom.Atom.{Atom}
-use Rattle.lin_model.specs.KeyAtom.{PlainKeyAtom}
-use Rattle.slicer.specs.Slices.{PlainSlice}
-use Rattle.canoniser.specs.Keys.{IsKeyOf}
 
 -- every term of a side times m
 abbrev pub times_side : ℕ → List PlainTerm → List PlainTerm
@@ -26,7 +23,3 @@ pub record IsMultiple (atom other : Atom) : Type 0 where
 pub record IsScaled (c d : PlainCondition) : Type 0 where
   pub vars : d.vars ≡ c.vars
   pub atoms : AllZip IsMultiple c.atoms d.atoms
-
--- such conditions have the same keys
-abbrev pub KeysIgnoreFactors : Type 0
-KeysIgnoreFactors = (c d : PlainCondition) (s : PlainSlice) (key : List PlainKeyAtom) → IsScaled c d → IsKeyOf c s key ↔ IsKeyOf d s key

@@ -1,8 +1,13 @@
 pub mod Gathered
 pub mod Numbering
 pub mod Forms
-pub mod Keys
-pub mod Solutions
 pub mod Limits
 pub mod Meaning
+pub mod Keys
+pub mod Parts
+pub mod Strongest
+pub mod Solutions
+pub mod Said
+pub mod Answers
 pub mod Factors
+pub mod Laws

@@ -54,9 +54,10 @@ impl Back {
     }
 
     /// How many variables the slice has.
-    pub fn width(&self) -> usize
-        ensures { result ≡ length self.now }
+    pub fn width(&self) -> u8
+        ensures width { result ≡ length self.now }
+        ensures few { result ≤ 64 }
     {
-        self.order.len()
+        self.order.len() as u8
     }
 }

@@ -2,13 +2,19 @@
 #![tactic(auto)]
 
 mod back;
+mod bounds;
 mod canonical;
-mod factors;
+mod implied;
+mod keys;
+mod laws;
 mod linear;
 mod numbering;
 mod outcome;
+mod said;
 mod side;
+mod strongest;
 
 pub use back::Back;
 pub use canonical::Canonical;
-pub use factors::keys_ignore_factors;
+pub use keys::canonise;
+pub use laws::{factors_keep_keys, repeating_keeps_keys};
