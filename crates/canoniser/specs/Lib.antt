@@ -1,6 +1,7 @@
 pub mod Gathered
 pub mod Numbering
 pub mod Forms
+pub mod Tables
 pub mod Limits
 pub mod Meaning
 pub mod Keys

@@ -1,10 +1,11 @@
 //! Atoms with their variables on the left and their constants on the right.
-ghost use Rattle.std.specs.Prelude.{◌≡◌, ℕ, pos, ◌-ℤ◌, neg_ℤ, ◌^◌, ◌<◌, ◌≤◌, length, slice_index_or, unsigned_abs, All, IfOk, OnOk, map, List, [], ◌∷◌, ◌++◌, if◌then◌else◌};
+ghost use Rattle.std.specs.Prelude.{◌≡◌, pos, ◌-ℤ◌, neg_ℤ, ◌^◌, ◌<◌, ◌≤◌, length, unsigned_abs, All, IfOk, OnOk, map, [], ◌∷◌, ◌++◌, if◌then◌else◌};
 ghost use Rattle.std.specs.Ordering.{int_eq};
 ghost use Rattle.lin_model.specs.declared.atom.Atom.{Atom as AnyAtom};
 ghost use Rattle.lin_model.specs.Conditions.{AtomNamesBelow};
-ghost use Rattle.canoniser.specs.Gathered.{coefficient, op_of, loose};
+ghost use Rattle.canoniser.specs.Gathered.{op_of, loose};
 ghost use Rattle.canoniser.specs.Forms.{terms_from, gathered, oriented, turned, turned_op, begins_negative};
+ghost use Rattle.canoniser.specs.Tables.{AreWithin, HaveCoefficients};
 ghost use Rattle.canoniser.specs.Limits.{IsGathered, IsOriented};
 
 use crate::side::{Side, side_of};
@@ -57,10 +58,10 @@ fn terms_of(
 ) -> Result<Vec<FormTerm>, NoMemory>
     requires few { length order.now ≤ 64 }
     requires in_range { All (λ v. v < 64) order.now }
-    requires small_left { (v : ℕ) → v < 64 → unsigned_abs (slice_index_or left.now.factors v (pos 0)) ≤ 2 ^ 37 }
-    requires small_right { (v : ℕ) → v < 64 → unsigned_abs (slice_index_or right.now.factors v (pos 0)) ≤ 2 ^ 37 }
+    requires small_left { AreWithin (2 ^ 37) left.now.factors }
+    requires small_right { AreWithin (2 ^ 37) right.now.factors }
     ensures { IfOk result (λ terms. (atom : AnyAtom)
-        → ((v : ℕ) → v < 64 → coefficient atom v ≡ slice_index_or left.now.factors v (pos 0) -ℤ slice_index_or right.now.factors v (pos 0))
+        → HaveCoefficients left.now.factors right.now.factors atom
         → terms.items ≡ terms_from 0 order.now atom) }
 {
     let mut terms = Vec::new(alloc);
@@ -71,6 +72,7 @@ fn terms_of(
     Ok(terms)
 }
 
+/// The left number less the right one.
 fn difference(left: i64, right: i64) -> i64
     requires left { unsigned_abs left ≤ 2 ^ 46 }
     requires right { unsigned_abs right ≤ 2 ^ 46 }
@@ -159,6 +161,7 @@ fn negated(alloc: Global, form: &[FormTerm]) -> Result<Vec<FormTerm>, NoMemory>
     Ok(terms)
 }
 
+/// The term with its coefficient times -1.
 fn opposite(term: FormTerm) -> FormTerm
     requires { unsigned_abs term.coef < 2 ^ 40 }
     ensures { result ≡ record { var = term.var; coef = neg_ℤ term.coef } }

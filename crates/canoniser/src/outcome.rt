@@ -23,7 +23,7 @@ pub(crate) enum Outcome {
     Says(KeyAtom),
 }
 
-/// What the atom comes to, where `order` are the condition's variables in the order of their numbers in the key.
+/// What the atom comes to. `order` are the condition's variables in the order of their numbers in the key.
 pub(crate) fn outcome_of(alloc: Global, order: &[u32], atom: &Atom) -> Result<Outcome, NoMemory>
     requires few { length order.now ≤ 64 }
     requires in_range { All (λ v. v < 64) order.now }
