@@ -7,6 +7,9 @@ mod SideLemmas
 mod MeaningLemmas
 mod CanonicalLemmas
 mod PossibleLemmas
+mod ScalingLemmas
+mod ScaledOutcomes
+mod ScaledConditions
 mod Worked
 mod PartLemmas
 mod ImplicationLemmas

@@ -6,6 +6,7 @@ use Rattle.lin_model.specs.declared.atom.Atom.{Atom}
 use Rattle.lin_model.specs.KeyAtom.{PlainKeyAtom}
 use Rattle.slicer.specs.Slices.{PlainSlice}
 use Rattle.canoniser.specs.Keys.{IsSliceIn, IsKeyOf}
+use Rattle.canoniser.specs.Factors.{IsScaled}
 
 -- two slices, each of its condition, have the same keys
 abbrev pub HaveSameKeys : PlainCondition → PlainSlice → PlainCondition → PlainSlice → Type 0
@@ -45,3 +46,7 @@ pub record IsRenumbered (f : ℕ → ℕ) (c d : PlainCondition) : Type 0 where
 abbrev pub RenumberingKeepsKeys : Type 0
 RenumberingKeepsKeys = (c d : PlainCondition) (s t : PlainSlice) (f g : ℕ → ℕ) → Fits c.vars c.atoms → IsOneToOne (length c.vars) f g → IsOneToOne (length c.vars) g f → IsRenumbered f c d → IsSliceIn c s → IsSliceIn d t
     → ((v : ℕ) → v < length c.vars → Contains s.vars v ↔ Contains t.vars (f v)) → HaveSameKeys c s d t
+
+-- where both sides of atoms are multiplied by positive numbers, a slice has the same keys
+abbrev pub FactorsKeepKeys : Type 0
+FactorsKeepKeys = (c d : PlainCondition) (s : PlainSlice) → IsScaled c d → HaveSameKeys c s d s
