@@ -7,6 +7,9 @@ mod SideLemmas
 mod MeaningLemmas
 mod CanonicalLemmas
 mod PossibleLemmas
+mod ScalingLemmas
+mod ScaledOutcomes
+mod ScaledConditions
 mod Worked
 mod PartLemmas
 mod ImplicationLemmas
@@ -21,3 +24,6 @@ mod CanonisedLemmas
 mod SelectLemmas
 mod SameKeyLemmas
 mod RepeatLemmas
+mod RenumberedLemmas
+mod NamedLemmas
+mod RenumberingLemmas

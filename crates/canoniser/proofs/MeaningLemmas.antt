@@ -148,7 +148,7 @@ not_divided g c n m h value same =
     let size : unsigned_abs c ≡ g * unsigned_abs m = ap unsigned_abs (sym same ∙ value) ∙ unsigned_abs-mul (pos g) m in
     eq-eqb (unsigned_abs c % g) 0 (mod-eq-zero_of_dvd g (subst (λ k. g ∣ k) (sym size) (dvd-mul_right g (unsigned_abs m))))
 
-divisor_from_test : (g : ℕ) (c : ℤ) → divides g c ≡ true → g ∣ unsigned_abs c
+pub divisor_from_test : (g : ℕ) (c : ℤ) → divides g c ≡ true → g ∣ unsigned_abs c
 divisor_from_test g c e = dvd_of_mod-eq-zero g (eqb-true (unsigned_abs c % g) 0 e)
 
 equal_by : (test : Bool) (g : ℕ) (form : List FormTerm) (c : ℤ) → 0 < g → DividesAll g form → divides g c ≡ test → Means form Equals c (if test then says (record { form = divided g form; op = Equals; constant = floor_div c g }) else never)

@@ -1,6 +1,7 @@
 pub mod Gathered
 pub mod Numbering
 pub mod Forms
+pub mod Tables
 pub mod Limits
 pub mod Meaning
 pub mod Keys
@@ -9,4 +10,5 @@ pub mod Strongest
 pub mod Solutions
 pub mod Said
 pub mod Answers
+pub mod Factors
 pub mod Laws

@@ -4,16 +4,17 @@
 mod back;
 mod bounds;
 mod canonical;
-mod gathered;
 mod implied;
 mod keys;
 mod laws;
+mod linear;
 mod numbering;
 mod outcome;
 mod said;
+mod side;
 mod strongest;
 
 pub use back::Back;
 pub use canonical::Canonical;
 pub use keys::canonise;
-pub use laws::repeating_keeps_keys;
+pub use laws::{factors_keep_keys, renumbering_keeps_keys, repeating_keeps_keys};

@@ -1,20 +1,16 @@
 //! What an atom comes to over the variables of its slice.
-ghost use Rattle.std.specs.Prelude.{◌≡◌, ℕ, pos, ◌-ℤ◌, neg_ℤ, ◌^◌, ◌<◌, ◌≤◌, length, slice_index_or, unsigned_abs, All, IfOk, OnOk, map, List, [], ◌∷◌, ◌++◌, if◌then◌else◌};
-ghost use Rattle.std.specs.Ordering.{int_eq};
-ghost use Rattle.lin_model.specs.declared.atom.Atom.{Atom as AnyAtom};
-ghost use Rattle.lin_model.specs.Conditions.{AtomFits, AtomNamesBelow};
+ghost use Rattle.std.specs.Prelude.{◌≡◌, pos, ◌^◌, ◌<◌, ◌≤◌, length, unsigned_abs, All, IfOk, if◌then◌else◌};
+ghost use Rattle.lin_model.specs.Conditions.{AtomNamesBelow};
 ghost use Rattle.lin_model.specs.Form.{IsGcdOf};
 ghost use Rattle.lin_model.specs.KeyAtom.{HasSmallCoefficients};
-ghost use Rattle.canoniser.specs.Gathered.{coefficient, op_of, loose};
-ghost use Rattle.canoniser.specs.Forms.{terms_from, gathered, oriented, turned, turned_op, begins_negative, says, floor_div, ceil_div, divides, divided, alone, ComesTo, IsReduced};
-ghost use Rattle.canoniser.specs.Limits.{IsGathered, IsOriented};
+ghost use Rattle.canoniser.specs.Forms.{says, floor_div, ceil_div, divides, divided, alone, ComesTo, IsReduced};
+ghost use Rattle.canoniser.specs.Limits.{IsOriented};
 ghost use Rattle.canoniser.specs.Meaning.{meaning};
 
-use crate::gathered::{Side, side_of};
-use lin_model::{Atom, Cmp, Form, FormTerm, KeyAtom, Op, gcd_of};
+use crate::linear::{Linear, gathered, oriented};
+use lin_model::{Atom, Form, FormTerm, KeyAtom, Op, gcd_of};
 use outside::NoMemory;
 use std::alloc::Global;
-use std::marker::Model;
 
 /// What an atom comes to.
 #[derive(Debug, Drop)]
@@ -27,23 +23,7 @@ pub(crate) enum Outcome {
     Says(KeyAtom),
 }
 
-/// An atom `form op constant` that needn't be canonical.
-#[derive(Drop)]
-struct Linear {
-    form: Vec<FormTerm>,
-    op: Op,
-    constant: i64,
-}
-
-impl Model for Linear {
-    ghost use Rattle.lin_model.specs.KeyAtom.{PlainKeyAtom};
-
-    ghost Value = { PlainKeyAtom };
-
-    ghost view = { λ a. record { form = a.form.items; op = a.op; constant = a.constant } };
-}
-
-/// What the atom comes to, where `order` are the condition's variables in the order of their numbers in the key.
+/// What the atom comes to. `order` are the condition's variables in the order of their numbers in the key.
 pub(crate) fn outcome_of(alloc: Global, order: &[u32], atom: &Atom) -> Result<Outcome, NoMemory>
     requires few { length order.now ≤ 64 }
     requires in_range { All (λ v. v < 64) order.now }
@@ -56,158 +36,6 @@ pub(crate) fn outcome_of(alloc: Global, order: &[u32], atom: &Atom) -> Result<Ou
         return Ok(alone(linear.op, linear.constant));
     }
     reduced(alloc, linear)
-}
-
-/// The atom with its variables on the left, by their numbers in the key, and its constants on the right.
-fn gathered(alloc: Global, order: &[u32], atom: &Atom) -> Result<Linear, NoMemory>
-    requires few { length order.now ≤ 64 }
-    requires in_range { All (λ v. v < 64) order.now }
-    requires named { AtomNamesBelow 64 atom.now }
-    ensures linear { IfOk result (λ a. a ≡ gathered order.now atom.now) }
-    ensures limits { IfOk result (λ a. IsGathered a) }
-{
-    let left = side_of(atom.left.terms());
-    let right = side_of(atom.right.terms());
-    let form = terms_of(alloc, order, &left, &right)?;
-    let constant = loose(atom.cmp, difference(right.constant, left.constant));
-    Ok(Linear {
-        form,
-        op: op_of(atom.cmp),
-        constant,
-    })
-}
-
-/// The terms over the variables of `order`, without coefficients 0.
-fn terms_of(
-    alloc: Global,
-    order: &[u32],
-    left: &Side,
-    right: &Side,
-) -> Result<Vec<FormTerm>, NoMemory>
-    requires few { length order.now ≤ 64 }
-    requires in_range { All (λ v. v < 64) order.now }
-    requires small_left { (v : ℕ) → v < 64 → unsigned_abs (slice_index_or left.now.factors v (pos 0)) ≤ 2 ^ 37 }
-    requires small_right { (v : ℕ) → v < 64 → unsigned_abs (slice_index_or right.now.factors v (pos 0)) ≤ 2 ^ 37 }
-    ensures { IfOk result (λ terms. (atom : AnyAtom)
-        → ((v : ℕ) → v < 64 → coefficient atom v ≡ slice_index_or left.now.factors v (pos 0) -ℤ slice_index_or right.now.factors v (pos 0))
-        → terms.items ≡ terms_from 0 order.now atom) }
-{
-    let mut terms = Vec::new(alloc);
-    for (k, v) in order.iter().enumerate() {
-        let coef = difference(left.factors[*v as usize], right.factors[*v as usize]);
-        push_term(&mut terms, k as u8, coef)?;
-    }
-    Ok(terms)
-}
-
-fn difference(left: i64, right: i64) -> i64
-    requires left { unsigned_abs left ≤ 2 ^ 46 }
-    requires right { unsigned_abs right ≤ 2 ^ 46 }
-    ensures { result ≡ left -ℤ right }
-{
-    left - right
-}
-
-/// Adds the term unless its coefficient is 0.
-fn push_term(terms: &mut Vec<FormTerm>, var: u8, coef: i64) -> Result<(), NoMemory>
-    ensures { OnOk result (terms.new.items ≡ terms.old.items
-        ++ (if int_eq coef (pos 0) then [] else record { var = var; coef = coef } ∷ [])) }
-{
-    if coef != 0 {
-        terms.push(FormTerm { var, coef })?;
-    }
-    Ok(())
-}
-
-/// How a canonical atom compares.
-fn op_of(cmp: Cmp) -> Op
-    ensures { result ≡ op_of cmp }
-{
-    match cmp {
-        Cmp::Le | Cmp::Lt => Op::Le,
-        Cmp::Ge | Cmp::Gt => Op::Ge,
-        Cmp::Eq => Op::Eq,
-        Cmp::Ne => Op::Ne,
-    }
-}
-
-/// The constant of the comparison that includes it.
-fn loose(cmp: Cmp, constant: i64) -> i64
-    requires { unsigned_abs constant ≤ 2 ^ 48 }
-    ensures { result ≡ loose cmp constant }
-{
-    match cmp {
-        Cmp::Lt => constant - 1,
-        Cmp::Gt => constant + 1,
-        Cmp::Le | Cmp::Ge | Cmp::Eq | Cmp::Ne => constant,
-    }
-}
-
-/// The atom with both sides times -1 where its first coefficient is negative.
-fn oriented(alloc: Global, a: Linear) -> Result<Linear, NoMemory>
-    requires { IsGathered a }
-    ensures linear { IfOk result (λ b. b ≡ oriented a) }
-    ensures limits { IfOk result (λ b. IsOriented b) }
-{
-    if !begins_negative(&a.form) {
-        return Ok(a);
-    }
-    turned(alloc, &a)
-}
-
-/// Whether the first coefficient is negative.
-fn begins_negative(form: &[FormTerm]) -> bool
-    ensures { result ≡ begins_negative form.now }
-{
-    match form.first() {
-        None => false,
-        Some(term) => term.coef < 0,
-    }
-}
-
-/// Both sides times -1.
-fn turned(alloc: Global, a: &Linear) -> Result<Linear, NoMemory>
-    requires { IsGathered a.now }
-    ensures linear { IfOk result (λ b. b ≡ turned a.now) }
-    ensures limits { IfOk result (λ b. IsGathered b) }
-{
-    Ok(Linear {
-        form: negated(alloc, &a.form)?,
-        op: turned_op(a.op),
-        constant: -a.constant,
-    })
-}
-
-/// Every coefficient times -1.
-fn negated(alloc: Global, form: &[FormTerm]) -> Result<Vec<FormTerm>, NoMemory>
-    requires { All (λ t. unsigned_abs t.coef < 2 ^ 40) form.now }
-    ensures { IfOk result (λ terms. terms.items
-        ≡ map (λ t. record { var = t.var; coef = neg_ℤ t.coef }) form.now) }
-{
-    let terms = form.iter().map(|t| opposite(*t)).collect(alloc)?;
-    Ok(terms)
-}
-
-fn opposite(term: FormTerm) -> FormTerm
-    requires { unsigned_abs term.coef < 2 ^ 40 }
-    ensures { result ≡ record { var = term.var; coef = neg_ℤ term.coef } }
-{
-    FormTerm {
-        var: term.var,
-        coef: -term.coef,
-    }
-}
-
-/// The comparison of two numbers with their signs changed.
-fn turned_op(op: Op) -> Op
-    ensures { result ≡ turned_op op }
-{
-    match op {
-        Op::Le => Op::Ge,
-        Op::Ge => Op::Le,
-        Op::Eq => Op::Eq,
-        Op::Ne => Op::Ne,
-    }
 }
 
 /// What an atom without variables comes to.

@@ -4,7 +4,7 @@ use Rattle.std.proofs.lemmas.Int.{ints}
 use Rattle.std.proofs.lemmas.List.Elements.{All-more, at_read}
 use Rattle.lin_model.specs.Terms.{TermFits}
 use Rattle.canoniser.proofs.GatheredLemmas.{factor_on_more, constants_of_more, factor_on-within, constants_of-within}
-use Rattle.canoniser.proofs.gathered.side_of.Goals as goal
+use Rattle.canoniser.proofs.side.side_of.Goals as goal
 
 pub add-requires-clause-small_factors : goal.add-requires-clause-small_factors
 add-requires-clause-small_factors c v low =

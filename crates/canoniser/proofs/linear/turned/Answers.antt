@@ -1,7 +1,7 @@
 use Rattle.std.proofs.Common.{rules}
 use Rattle.canoniser.specs.Forms.{turned}
 use Rattle.canoniser.proofs.LimitsLemmas.{IsGathered-same, IsGathered-turned}
-use Rattle.canoniser.proofs.outcome.turned.Goals as goal
+use Rattle.canoniser.proofs.linear.turned.Goals as goal
 
 pub returns-clause-limits : goal.returns-clause-limits
 returns-clause-limits c =

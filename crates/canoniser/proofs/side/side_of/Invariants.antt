@@ -2,7 +2,7 @@ use Rattle.std.proofs.Common.{◌≡◌, ℕ, ◌<◌, pos, take, get_or}
 use Rattle.std.specs.Prelude.{All}
 use Rattle.lin_model.specs.Terms.{TermFits}
 use Rattle.canoniser.specs.Gathered.{factor_on, constants_of}
-use Rattle.canoniser.proofs.gathered.side_of.Given as goal
+use Rattle.canoniser.proofs.side.side_of.Given as goal
 
 -- the sums of the terms so far
 abbrev pub invariant-loop-term : goal.invariant-loop-term

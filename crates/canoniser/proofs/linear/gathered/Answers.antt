@@ -7,7 +7,7 @@ use Rattle.lin_model.specs.Terms.{TermFits}
 use Rattle.canoniser.specs.Gathered.{coefficient, constant, loose, factor_on, constants_of}
 use Rattle.canoniser.specs.Forms.{gathered}
 use Rattle.canoniser.proofs.LimitsLemmas.{same_parts, IsGathered-same, IsGathered-gathered}
-use Rattle.canoniser.proofs.outcome.gathered.Goals as goal
+use Rattle.canoniser.proofs.linear.gathered.Goals as goal
 
 pub returns-clause-linear : goal.returns-clause-linear
 returns-clause-linear c =

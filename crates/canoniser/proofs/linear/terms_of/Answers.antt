@@ -2,7 +2,7 @@ use Rattle.std.proofs.Common.{◌<◌, get_or, arith, to_z, of_z}
 use Rattle.std.specs.Int.{w64}
 use Rattle.std.proofs.lemmas.Int.{ints}
 use Rattle.canoniser.proofs.LimitsLemmas.{terms_from_more}
-use Rattle.canoniser.proofs.outcome.terms_of.Goals as goal
+use Rattle.canoniser.proofs.linear.terms_of.Goals as goal
 
 pub loop-k-preserved : goal.loop-k-preserved
 loop-k-preserved c atom reads =

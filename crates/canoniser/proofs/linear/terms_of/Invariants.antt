@@ -2,7 +2,7 @@ use Rattle.std.proofs.Common.{◌≡◌, ℕ, ◌<◌, ◌-ℤ◌, pos, take, ge
 use Rattle.lin_model.specs.declared.atom.Atom.{Atom}
 use Rattle.canoniser.specs.Gathered.{coefficient}
 use Rattle.canoniser.specs.Forms.{terms_from}
-use Rattle.canoniser.proofs.outcome.terms_of.Given as goal
+use Rattle.canoniser.proofs.linear.terms_of.Given as goal
 
 -- the terms over the variables so far
 abbrev pub invariant-loop-k : goal.invariant-loop-k
