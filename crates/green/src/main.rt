@@ -1,8 +1,8 @@
 //! The program `green`: the top call over the standard streams.
 #![tactic(auto)]
 
-use green_cli::{Fault, green};
-use outside::{NoDisk, NoGate, Sink, StdSink, StdSource};
+use green_cli::{Fault, green, tell};
+use outside::{NoDisk, NoGate, StdSink, StdSource};
 use std::process::ExitCode;
 use std::{env, io, rt};
 
@@ -10,10 +10,7 @@ fn main(rt: HostRuntime) -> ExitCode {
     let mut sink = StdSink::new(io::writer(&rt));
     let words = match words(&rt) {
         Ok(words) => words,
-        Err(fault) => {
-            let _ = sink.write(fault.line().as_bytes());
-            return ExitCode::from(fault.status());
-        }
+        Err(fault) => return ExitCode::from(tell(rt.alloc(), fault, &mut sink)),
     };
     let mut source = StdSource::new(rt.reader());
     let outcome = green(

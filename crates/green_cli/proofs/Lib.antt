@@ -1,3 +1,5 @@
-mod HalvingLemmas
+mod FewLemmas
 mod InputLemmas
+mod StatusLemmas
 mod TextLemmas
+pub mod TakenLemmas

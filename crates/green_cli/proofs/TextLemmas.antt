@@ -3,11 +3,10 @@ use Rattle.std.proofs.Common.{◌≡◌, ℕ, suc, ◌+◌, ◌<◌, List, [], �
 use Rattle.lin_model.specs.Terms.{PlainVar}
 use Rattle.lin_model.specs.Conditions.{PlainCondition}
 use Rattle.lin_text.specs.Spelling.{line}
-use Rattle.green_cli.specs.declared.answer.Plain.{Plain}
-use Rattle.green_cli.specs.declared.answer.PlainPart.{PlainPart}
+use Rattle.pipeline.specs.declared.answer.Plain.{Plain}
+use Rattle.pipeline.specs.declared.answer.PlainPart.{PlainPart}
 use Rattle.std.specs.List.{AllZip}
-use Rattle.green_cli.specs.declared.answer.PlainPart.TheVariants.{Solved}
-use Rattle.green_cli.specs.AnswersText.{HaveAnswers, model_text, value_text, parts_text, part_text, script_text, answer_text, executors_text, solved_count, solved_in_all}
+use Rattle.green_cli.specs.AnswersText.{HaveAnswers, model_text, value_text, parts_text, part_text, script_text, answer_text, executors_text, solved_of, solved_in, solved_count, solved_in_all}
 
 -- what is left begins with the item that is read
 pub drop_at : {X : Type 0} (xs : List X) (i : ℕ) (x : X) → i < length xs → x ≡ get_or xs i x → drop i xs ≡ x ∷ drop (i + 1) xs
@@ -29,12 +28,11 @@ unfolding model_text
 model_done [] values e = refl
 model_done (var ∷ vars) values e = ap (model_text (var ∷ vars)) e
 
-pub parts_step : (parts : List PlainPart) (i place : ℕ) → i < length parts → parts_text place (drop i parts) ≡ part_text place ++ parts_text (place + 1) (drop (i + 1) parts)
+pub parts_step : (parts : List PlainPart) (i place : ℕ) (part : PlainPart) → i < length parts → part ≡ get_or parts i part → parts_text place (drop i parts) ≡ part_text place part ++ parts_text (place + solved_of part) (drop (i + 1) parts)
 unfolding parts_text
-parts_step parts i place within =
-    rw (drop-cons parts i Solved within) (ap (λ (n : ℕ). part_text place ++ parts_text (place + 1) (drop n parts)) (sym (add-one i)))
+parts_step parts i place part within is = rw (drop_at parts i part within is) refl
 
-pub script_step : (queries : List PlainCondition) (answers : List Plain) (i place : ℕ) (q : PlainCondition) (answer : Plain) → i < length queries → q ≡ get_or queries i q → i < length answers → answer ≡ get_or answers i answer → script_text place (drop i queries) (drop i answers) ≡ line (answer_text place q answer) ++ script_text (place + length answer.parts) (drop (i + 1) queries) (drop (i + 1) answers)
+pub script_step : (queries : List PlainCondition) (answers : List Plain) (i place : ℕ) (q : PlainCondition) (answer : Plain) → i < length queries → q ≡ get_or queries i q → i < length answers → answer ≡ get_or answers i answer → script_text place (drop i queries) (drop i answers) ≡ line (answer_text place q answer) ++ script_text (place + solved_in answer.parts) (drop (i + 1) queries) (drop (i + 1) answers)
 unfolding script_text
 script_step queries answers i place q answer a b c d = rw (drop_at queries i q a b, drop_at answers i answer c d) refl
 
@@ -59,7 +57,10 @@ unfolding executors_text
 executors_end place executors scripts e = ap (λ (xs : List (List PlainCondition)). executors_text place xs scripts) e
 
 -- the answers from a place on, one of them and the rest
-pub count_step : (answers : List Plain) (i : ℕ) (answer : Plain) → i < length answers → answer ≡ get_or answers i answer → solved_count (drop i answers) ≡ length answer.parts + solved_count (drop (i + 1) answers)
+pub parts_count_step : (parts : List PlainPart) (i : ℕ) (part : PlainPart) → i < length parts → part ≡ get_or parts i part → solved_in (drop i parts) ≡ solved_of part + solved_in (drop (i + 1) parts)
+parts_count_step parts i part within is = ap solved_in (drop_at parts i part within is)
+
+pub count_step : (answers : List Plain) (i : ℕ) (answer : Plain) → i < length answers → answer ≡ get_or answers i answer → solved_count (drop i answers) ≡ solved_in answer.parts + solved_count (drop (i + 1) answers)
 count_step answers i answer within is = ap solved_count (drop_at answers i answer within is)
 
 pub count_all_step : (scripts : List (List Plain)) (i : ℕ) (answers : List Plain) → i < length scripts → answers ≡ get_or scripts i answers → solved_in_all (drop i scripts) ≡ solved_count answers + solved_in_all (drop (i + 1) scripts)
@@ -70,6 +71,9 @@ unfolding executors_text
 executors_step executors scripts i place queries answers a b c d = rw (drop_at executors i queries a b, drop_at scripts i answers c d) refl
 
 -- the same step, where the next number has a name
+pub next_parts : (text piece : List ℕ) (parts : List PlainPart) (next sum : ℕ) → next ≡ sum → text ≡ piece ++ parts_text sum parts → text ≡ piece ++ parts_text next parts
+next_parts text piece parts next sum e step = step ∙ ap (λ (n : ℕ). piece ++ parts_text n parts) (sym e)
+
 pub next_script : (text piece : List ℕ) (queries : List PlainCondition) (answers : List Plain) (next sum : ℕ) → next ≡ sum → text ≡ piece ++ script_text sum queries answers → text ≡ piece ++ script_text next queries answers
 next_script text piece queries answers next sum e step = step ∙ ap (λ (n : ℕ). piece ++ script_text n queries answers) (sym e)
 

@@ -1,7 +1,10 @@
 -- What was read of a source that tells its bytes. Of one that tells none, nothing is said.
-use Rattle.std.specs.Prelude.{◌≡◌, ℕ, ◌+◌, ◌≤◌, List, [], ◌++◌, length, Option, Some, None, IfSome}
+use Rattle.std.specs.Prelude.{◌≡◌, ◌≢◌, ℕ, ◌+◌, ◌≤◌, List, [], ◌++◌, length, Option, Some, None, IfSome}
 use Rattle.lin_model.specs.Conditions.{PlainCondition}
-use Rattle.lin_text.specs.Small.{SpellsSmall, single}
+use Rattle.lin_text.specs.declared.fault.SessionFault.{SessionFault}
+use Rattle.lin_text.specs.declared.fault.SessionKind.TheVariants.{NoMemory}
+use Rattle.session_text.specs.Answers.{IsPlaced}
+use Rattle.session_text.specs.Sessions.{SpellsSession}
 
 -- the most bytes of an input
 abbrev pub max_input : ℕ
@@ -18,19 +21,18 @@ pub record WasRead (old new : Option (List ℕ)) (bytes : List ℕ) : Type 0 whe
   pub at_end : IfSome new (λ rest. rest ≡ [])
   pub short : length bytes ≤ max_input
 
--- the input, read to its end, is a small session with the query of this session
+-- the input, read to its end, spells this session
 pub record InputWasRead (old new : Option (List ℕ)) (session : List (List PlainCondition)) : Type 0 where
   pub bytes : List ℕ
   pub read : WasRead old new bytes
-  pub query : PlainCondition
-  pub only : session ≡ single query
-  pub spells : SpellsSmall bytes query
+  pub spells : SpellsSession bytes session
 
--- the input, read to its end, is no small session
-pub record InputIsLater (old new : Option (List ℕ)) : Type 0 where
+-- the input, read to its end, is no session, and this is its first fault; want of memory is none
+pub record InputIsFaulty (old new : Option (List ℕ)) (told : SessionFault) : Type 0 where
   pub bytes : List ℕ
   pub read : WasRead old new bytes
-  pub none : (q : PlainCondition) → ¬ SpellsSmall bytes q
+  pub placed : IsPlaced bytes told
+  pub of_text : told.kind ≢ NoMemory
 
 -- the source gave one byte more than an input may have, and was asked no further
 pub record InputIsTooLong (old new : Option (List ℕ)) : Type 0 where

@@ -1,6 +1,7 @@
-pub mod Answers
 pub mod AnswersText
-pub mod Halving
 pub mod Input
+pub mod Laws
+pub mod Lines
 pub mod Solve
 pub mod Statuses
+pub mod Words

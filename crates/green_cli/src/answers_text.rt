@@ -1,12 +1,12 @@
 //! Writing the answers to a session.
 ghost use Rattle.std.specs.Prelude.{◌≡◌, ◌++◌, ◌+◌, ◌<◌, ◌^◌, ℕ, length, IfOk, OnOk, decimal};
 ghost use Rattle.lin_text.specs.Spelling.{line};
-ghost use Rattle.green_cli.specs.AnswersText.{answers_text, executors_text, script_text, answer_text, verdict_text, model_text, value_text, parts_text, part_text, solved_count, solved_in_all, HaveAnswers};
+ghost use Rattle.green_cli.specs.AnswersText.{answers_text, executors_text, script_text, answer_text, verdict_text, model_text, value_text, parts_text, part_text, new_text, solved_of, solved_in, solved_count, solved_in_all, HaveAnswers};
 
-use crate::answer::{Plain, PlainPart, Told};
 use lin_model::{Condition, Script, Session, Var};
 use lin_text::{push_integer, push_number, push_str};
 use outside::NoMemory;
+use pipeline::{Plain, PlainPart, Told};
 use sqlite_items::Items;
 use std::alloc::Global;
 
@@ -72,13 +72,13 @@ fn push_line(
     query: &Condition,
     answer: &Plain,
 ) -> Result<u64, NoMemory>
-    requires { place + length answer.now.parts < 2 ^ 64 }
+    requires { place + solved_in answer.now.parts < 2 ^ 64 }
     ensures text { OnOk result (out.new.items ≡ out.old.items ++ line (answer_text place query.now answer.now)) }
-    ensures next { IfOk result (λ next. next ≡ place + length answer.now.parts) }
+    ensures next { IfOk result (λ next. next ≡ place + solved_in answer.now.parts) }
 {
-    push_answer(out, place, query, answer)?;
+    let next = push_answer(out, place, query, answer)?;
     out.push(b'\n')?;
-    Ok(place + answer.parts.len() as u64)
+    Ok(next)
 }
 
 #[tactic(auto, unfolding(crate::specs::AnswersText::answer_text))]
@@ -87,9 +87,10 @@ fn push_answer(
     place: u64,
     query: &Condition,
     answer: &Plain,
-) -> Result<(), NoMemory>
-    requires { place + length answer.now.parts < 2 ^ 64 }
-    ensures { OnOk result (out.new.items ≡ out.old.items ++ answer_text place query.now answer.now) }
+) -> Result<u64, NoMemory>
+    requires { place + solved_in answer.now.parts < 2 ^ 64 }
+    ensures text { OnOk result (out.new.items ≡ out.old.items ++ answer_text place query.now answer.now) }
+    ensures next { IfOk result (λ next. next ≡ place + solved_in answer.now.parts) }
 {
     push_verdict(out, query.vars(), &answer.verdict)?;
     push_parts(out, place, answer.parts.as_slice())
@@ -139,22 +140,40 @@ fn push_value(out: &mut Vec<u8>, var: &Var, value: i64) -> Result<(), NoMemory>
     push_integer(out, value)
 }
 
-fn push_parts(out: &mut Vec<u8>, place: u64, parts: &[PlainPart]) -> Result<(), NoMemory>
-    requires { place + length parts.now < 2 ^ 64 }
-    ensures { OnOk result (out.new.items ≡ out.old.items ++ parts_text place parts.now) }
+/// Adds a mark for each part, and answers how many parts were solved up to the last.
+fn push_parts(out: &mut Vec<u8>, place: u64, parts: &[PlainPart]) -> Result<u64, NoMemory>
+    requires { place + solved_in parts.now < 2 ^ 64 }
+    ensures text { OnOk result (out.new.items ≡ out.old.items ++ parts_text place parts.now) }
+    ensures next { IfOk result (λ next. next ≡ place + solved_in parts.now) }
 {
     let mut next = place;
     for part in parts {
-        let PlainPart::Solved = part;
-        push_part(out, next)?;
-        next += 1;
+        next = push_part(out, next, part)?;
     }
-    Ok(())
+    Ok(next)
 }
 
 #[tactic(auto, unfolding(crate::specs::AnswersText::part_text))]
-fn push_part(out: &mut Vec<u8>, place: u64) -> Result<(), NoMemory>
-    ensures { OnOk result (out.new.items ≡ out.old.items ++ part_text place) }
+fn push_part(out: &mut Vec<u8>, place: u64, part: &PlainPart) -> Result<u64, NoMemory>
+    requires { place + solved_of part.now < 2 ^ 64 }
+    ensures text { OnOk result (out.new.items ≡ out.old.items ++ part_text place part.now) }
+    ensures next { IfOk result (λ next. next ≡ place + solved_of part.now) }
+{
+    match part {
+        PlainPart::Solved => {
+            push_new(out, place)?;
+            Ok(place + 1)
+        }
+        PlainPart::Open(_) => {
+            push_str(out, " [spent]")?;
+            Ok(place)
+        }
+    }
+}
+
+#[tactic(auto, unfolding(crate::specs::AnswersText::new_text))]
+fn push_new(out: &mut Vec<u8>, place: u64) -> Result<(), NoMemory>
+    ensures { OnOk result (out.new.items ≡ out.old.items ++ new_text place) }
 {
     push_str(out, " [new ")?;
     push_number(out, place)?;

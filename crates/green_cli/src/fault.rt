@@ -1,23 +1,24 @@
 //! Why a call was refused, with the status and the line that tell of it.
 ghost use Rattle.std.specs.Prelude.{◌≡◌};
-ghost use Rattle.green_cli.specs.Statuses.{status_of, line_of};
+ghost use Rattle.green_cli.specs.Statuses.{status_of};
 
+use lin_text::{SessionFault, SessionKind};
 use outside::NoMemory;
 use std::alloc::{AllocError, AllocFailed};
 
 /// Why a call was refused.
-#[derive(Clone, Copy, Debug, PartialEq, Eq)]
+#[derive(Clone, Copy, Debug)]
 pub enum Fault {
     /// The words are no command. Status 10.
     Usage,
+    /// The input is no session, and this is its first fault. It is never of the kind `NoMemory`. Status 11.
+    Text(SessionFault),
     /// The source failed. Status 12.
     Read,
     /// Memory ran out. Status 16.
     Memory,
     /// The source gave more than 16,777,216 bytes. Status 18.
     TooLong,
-    /// The input is no small session. Status 19.
-    Later,
 }
 
 impl Fault {
@@ -27,24 +28,25 @@ impl Fault {
     {
         match self {
             Fault::Usage => 10,
+            Fault::Text(_) => 11,
             Fault::Read => 12,
             Fault::Memory => 16,
             Fault::TooLong => 18,
-            Fault::Later => 19,
         }
     }
+}
 
-    /// The line of the fault, with its line feed.
-    #[tactic(auto, unfolding(crate::specs::Statuses::line_of))]
-    pub fn line(self) -> &'static str
-        ensures { result.now ≡ line_of self }
-    {
-        match self {
-            Fault::Usage => "fault usage\n",
-            Fault::Read => "fault read\n",
-            Fault::Memory => "fault memory\n",
-            Fault::TooLong => "fault too-long\n",
-            Fault::Later => "fault later\n",
+impl From<SessionFault> for Fault {
+    ghost use Rattle.std.specs.Prelude.{◌≡◌, ◌≢◌, ◌⊎◌};
+    ghost use Rattle.lin_text.specs.declared.fault.SessionKind.TheVariants.{NoMemory};
+    ghost use Rattle.green_cli.specs.declared.fault.Fault.TheVariants.{Memory, Text};
+
+    ghost from_gives = { λ told fault. (fault ≡ Memory) ⊎ ((fault ≡ Text told) × (told.kind ≢ NoMemory)) };
+
+    fn from(told: SessionFault) -> Fault {
+        match told.kind {
+            SessionKind::NoMemory => Fault::Memory,
+            _ => Fault::Text(told),
         }
     }
 }

@@ -19,7 +19,7 @@ const PIECE: usize = 65_536;
 pub fn read_input<S: Source>(alloc: Global, source: &mut S) -> Result<Vec<u8>, Fault>
     ensures { MatchResult result
         (λ bytes. WasRead (S.left source.old) (S.left source.new) bytes.items)
-        (λ fault. HasReason fault (S.left source.old) (S.left source.new) (S.faults source.old) (S.faults source.new)) }
+        (λ fault. HasReason ⊥ fault (S.left source.old) (S.left source.new) (S.faults source.old) (S.faults source.new)) }
 {
     let mut bytes = Vec::new(alloc);
     let mut buffer = [0; PIECE];

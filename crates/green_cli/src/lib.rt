@@ -1,20 +1,20 @@
 //! The top call: words, a source, a sink and disks in; a status, a report and the disks out.
 #![tactic(auto)]
 
-mod answer;
+mod answering;
 mod answers_text;
-mod bound;
-mod decide;
 mod fault;
 mod input;
-mod interval;
+mod laws;
 mod outcome;
+mod refusal;
 mod run;
 mod solve;
 mod words;
 
-pub use answer::{Plain, PlainPart, Told};
 pub use fault::Fault;
+pub use laws::{commands_are_unique, lines_ask, lines_ask_nothing};
 pub use outcome::{Outcome, Report};
+pub use refusal::tell;
 pub use run::{green, run_once};
 pub use words::{Budget, Command, WordsFault, read_words};

@@ -1,7 +1,7 @@
 //! What a call hands back.
 
-use crate::answer::Plain;
 use lin_model::Session;
+use pipeline::Plain;
 use sqlite_items::Items;
 
 /// What a call found: the session that it read, and one answer for each query of each executor. Both

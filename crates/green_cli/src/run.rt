@@ -1,16 +1,18 @@
 //! The top call.
-ghost use Rattle.std.specs.Prelude.{◌≡◌, ◌⊎◌, ◌≢◌, map, codes, IsOk, OnOk, OnErr};
+ghost use Rattle.std.specs.Prelude.{◌≡◌, ◌⊎◌, ◌≢◌, map};
 ghost use Rattle.std.specs.String.{string_bytes};
 ghost use Rattle.outside.specs.Bytes.{Appends};
 ghost use Rattle.outside.specs.Counts.{Rose};
 ghost use Rattle.green_cli.specs.AnswersText.{answers_text};
-ghost use Rattle.green_cli.specs.Solve.{Solves, IsEmpty};
-ghost use Rattle.green_cli.specs.Statuses.{status_of, line_of, IsAnswered, IsStatus, HasReason, AreSolve, Writes};
+ghost use Rattle.green_cli.specs.Solve.{HasUnknown, IsEmpty, Solves, SolvesAsAsked, budget_of};
+ghost use Rattle.green_cli.specs.Statuses.{IsAnswered, IsRefused, IsToldAs, IsWritten, Tells, Writes};
+ghost use Rattle.green_cli.specs.Words.{AreCommand};
 ghost use Rattle.green_cli.specs.declared.fault.Fault.{Fault as AnyFault};
 
 use crate::fault::Fault;
 use crate::outcome::{Outcome, Report};
-use crate::solve::{Solved, solve};
+use crate::refusal::tell;
+use crate::solve::{Solved, has_unknown, solve};
 use crate::words::{Command, WordsFault, read_words};
 use lin_model::Session;
 use outside::{Disk, Gate, Sink, Source};
@@ -18,7 +20,7 @@ use sqlite_items::Items;
 use std::alloc::Global;
 
 /// Does what the words ask for. Statuses and lines are those of `run_once`; status 10 comes exactly where
-/// the words are no command, and then the source is left alone too.
+/// the words ask for no command, and then the source is left alone too.
 pub fn green<S: Source, K: Sink, D: Disk + Send, G: Gate + Sync>(
     alloc: Global,
     words: &[String],
@@ -28,28 +30,31 @@ pub fn green<S: Source, K: Sink, D: Disk + Send, G: Gate + Sync>(
     other: D,
     _gate: &G,
 ) -> Outcome<D>
-    ensures status { IsStatus result.status }
-    ensures words { (result.status ≡ 10) ⊎ AreSolve (map string_bytes words.now) }
-    ensures usage { result.status ≡ 10 → ¬ AreSolve (map string_bytes words.now) }
+    // Where the words are wrong.
+    ensures words { (result.status ≡ 10) ⊎ (result.status ≡ 16) ⊎ AreCommand (map string_bytes words.now) }
+    ensures usage { result.status ≡ 10 → ¬ AreCommand (map string_bytes words.now) }
     ensures unread { result.status ≡ 10 → source.new ≡ source.old }
 
-    ensures solved { IsAnswered result.status → Solves (S.left source.old) (S.left source.new) result.report }
+    // Where the session is answered.
+    ensures solved { IsAnswered result.status
+        → SolvesAsAsked (map string_bytes words.now) (S.left source.old) (S.left source.new) result.report }
     ensures answers { IsAnswered result.status
         → Writes (answers_text result.report.session result.report.answers) (K.taken sink.old) (K.taken sink.new) (K.faults sink.old) (K.faults sink.new) }
-    ensures all { result.status ≡ 0
+    ensures all { IsWritten result.status
         → Appends (K.taken sink.old) (K.taken sink.new) (answers_text result.report.session result.report.answers) }
+    ensures decided { result.status ≡ 0 → ¬ HasUnknown result.report.answers }
+    ensures unknown { result.status ≡ 3 → HasUnknown result.report.answers }
     ensures sink { result.status ≡ 13 → Rose (K.faults sink.old) (K.faults sink.new) }
 
-    ensures reason { (fault : AnyFault) → result.status ≡ status_of fault → result.status ≢ 10
-        → HasReason fault (S.left source.old) (S.left source.new) (S.faults source.old) (S.faults source.new) }
-    ensures line { (fault : AnyFault) → result.status ≡ status_of fault
-        → Writes (line_of fault) (K.taken sink.old) (K.taken sink.new) (K.faults sink.old) (K.faults sink.new) }
-    ensures nothing { (fault : AnyFault) → result.status ≡ status_of fault → IsEmpty result.report }
+    // Where it isn't.
+    ensures refused { IsAnswered result.status ⊎ IsRefused (¬ AreCommand (map string_bytes words.now)) result.status
+        (S.left source.old) (S.left source.new) (S.faults source.old) (S.faults source.new)
+        (K.taken sink.old) (K.taken sink.new) (K.faults sink.old) (K.faults sink.new) result.report }
 
     ensures disk { result.disk ≡ disk }
     ensures other { result.other ≡ other }
 {
-    match read_words(words) {
+    match read_words(alloc, words) {
         Ok(command) => run_once(alloc, &command, source, sink, disk, other),
         Err(WordsFault::Usage) => refuse(alloc, Fault::Usage, sink, disk, other),
         Err(WordsFault::NoMemory) => refuse(alloc, Fault::Memory, sink, disk, other),
@@ -58,10 +63,11 @@ pub fn green<S: Source, K: Sink, D: Disk + Send, G: Gate + Sync>(
 
 /// Does a command.
 ///
-/// Status 0: the source was read to its end, and its bytes are a session; each answer is right; the sink
-/// took the whole text of the answers. Status 13: the same, but the sink failed and took a front of the text.
-/// The others write a line of their own and leave the report empty. 12: the source failed. 16: memory ran out.
-/// 18: the source gave more than 16,777,216 bytes. 19: the input is no small session.
+/// Status 0: the source was read to its end, and its bytes are a session; each answer is right and tells sat or unsat;
+/// the sink took the whole text of the answers. Status 3: the same, but some answer is `Unknown`. Status 13: the sink
+/// failed and took a front of the text.
+/// The others write a line of their own and leave the report empty. 11: the input is no session; the line tells its
+/// first fault. 12: the source failed. 16: memory ran out. 18: the source gave more than 16,777,216 bytes.
 /// The disks are handed back as they are.
 pub fn run_once<S: Source, K: Sink, D: Disk>(
     alloc: Global,
@@ -71,27 +77,29 @@ pub fn run_once<S: Source, K: Sink, D: Disk>(
     disk: D,
     other: D,
 ) -> Outcome<D>
-    ensures status { IsStatus result.status }
     ensures words { result.status ≢ 10 }
 
-    ensures solved { IsAnswered result.status → Solves (S.left source.old) (S.left source.new) result.report }
+    // Where the session is answered.
+    ensures solved { IsAnswered result.status
+        → Solves (budget_of command.now) (S.left source.old) (S.left source.new) result.report }
     ensures answers { IsAnswered result.status
         → Writes (answers_text result.report.session result.report.answers) (K.taken sink.old) (K.taken sink.new) (K.faults sink.old) (K.faults sink.new) }
-    ensures all { result.status ≡ 0
+    ensures all { IsWritten result.status
         → Appends (K.taken sink.old) (K.taken sink.new) (answers_text result.report.session result.report.answers) }
+    ensures decided { result.status ≡ 0 → ¬ HasUnknown result.report.answers }
+    ensures unknown { result.status ≡ 3 → HasUnknown result.report.answers }
     ensures sink { result.status ≡ 13 → Rose (K.faults sink.old) (K.faults sink.new) }
 
-    ensures reason { (fault : AnyFault) → result.status ≡ status_of fault
-        → HasReason fault (S.left source.old) (S.left source.new) (S.faults source.old) (S.faults source.new) }
-    ensures line { (fault : AnyFault) → result.status ≡ status_of fault
-        → Writes (line_of fault) (K.taken sink.old) (K.taken sink.new) (K.faults sink.old) (K.faults sink.new) }
-    ensures nothing { (fault : AnyFault) → result.status ≡ status_of fault → IsEmpty result.report }
+    // Where it isn't.
+    ensures refused { IsAnswered result.status ⊎ IsRefused ⊥ result.status
+        (S.left source.old) (S.left source.new) (S.faults source.old) (S.faults source.new)
+        (K.taken sink.old) (K.taken sink.new) (K.faults sink.old) (K.faults sink.new) result.report }
 
     ensures disk { result.disk ≡ disk }
     ensures other { result.other ≡ other }
 {
-    let Command::Solve { budget: _ } = command;
-    match solve(alloc, source) {
+    let Command::Solve { budget } = command;
+    match solve(alloc, *budget, source) {
         Ok(solved) => finish(solved, sink, disk, other),
         Err(fault) => refuse(alloc, fault, sink, disk, other),
     }
@@ -102,25 +110,51 @@ fn finish<K: Sink, D: Disk>(solved: Solved, sink: &mut K, disk: D, other: D) -> 
     ensures status { IsAnswered result.status }
     ensures report { result.report ≡ solved.report }
     ensures text { Writes solved.text.items (K.taken sink.old) (K.taken sink.new) (K.faults sink.old) (K.faults sink.new) }
-    ensures all { result.status ≡ 0 → Appends (K.taken sink.old) (K.taken sink.new) solved.text.items }
+    ensures all { IsWritten result.status → Appends (K.taken sink.old) (K.taken sink.new) solved.text.items }
+    ensures decided { result.status ≡ 0 → ¬ HasUnknown solved.report.answers }
+    ensures unknown { result.status ≡ 3 → HasUnknown solved.report.answers }
     ensures sink { result.status ≡ 13 → Rose (K.faults sink.old) (K.faults sink.new) }
     ensures disk { result.disk ≡ disk }
     ensures other { result.other ≡ other }
 {
     let Solved { report, text } = solved;
-    let status = match sink.write(text.as_slice()) {
-        Ok(()) => 0,
-        Err(_) => 13,
-    };
     Outcome {
-        status,
+        status: write(&report, text.as_slice(), sink),
         report,
         disk,
         other,
     }
 }
 
-/// Writes the line of a fault.
+/// Writes the text of a report, and answers the status.
+fn write<K: Sink>(report: &Report, text: &[u8], sink: &mut K) -> u8
+    ensures status { IsAnswered result }
+    ensures text { Writes text.now (K.taken sink.old) (K.taken sink.new) (K.faults sink.old) (K.faults sink.new) }
+    ensures all { IsWritten result → Appends (K.taken sink.old) (K.taken sink.new) text.now }
+    ensures decided { result ≡ 0 → ¬ HasUnknown report.now.answers }
+    ensures unknown { result ≡ 3 → HasUnknown report.now.answers }
+    ensures sink { result ≡ 13 → Rose (K.faults sink.old) (K.faults sink.new) }
+{
+    match sink.write(text) {
+        Ok(()) => decided_status(report),
+        Err(_) => 13,
+    }
+}
+
+/// The status where the answers were written.
+fn decided_status(report: &Report) -> u8
+    ensures status { IsWritten result }
+    ensures decided { result ≡ 0 → ¬ HasUnknown report.now.answers }
+    ensures unknown { result ≡ 3 → HasUnknown report.now.answers }
+{
+    if has_unknown(report.answers.as_slice()) {
+        3
+    } else {
+        0
+    }
+}
+
+/// Tells of a fault.
 fn refuse<K: Sink, D: Disk>(
     alloc: Global,
     fault: Fault,
@@ -128,15 +162,14 @@ fn refuse<K: Sink, D: Disk>(
     disk: D,
     other: D,
 ) -> Outcome<D>
-    ensures status { result.status ≡ status_of fault }
-    ensures line { Writes (line_of fault) (K.taken sink.old) (K.taken sink.new) (K.faults sink.old) (K.faults sink.new) }
+    ensures told { (told : AnyFault) × IsToldAs fault told
+        × Tells told result.status (K.taken sink.old) (K.taken sink.new) (K.faults sink.old) (K.faults sink.new) }
     ensures nothing { IsEmpty result.report }
     ensures disk { result.disk ≡ disk }
     ensures other { result.other ≡ other }
 {
-    let _ = sink.write(fault.line().as_bytes());
     Outcome {
-        status: fault.status(),
+        status: tell(alloc, fault, sink),
         report: Report {
             session: Session::new(Vec::new(alloc)),
             answers: Items::new(alloc),

@@ -1,21 +1,18 @@
-//! Answering a session.
-ghost use Rattle.std.specs.Prelude.{◌≡◌, [], ◌∷◌, IfOk, MatchResult};
-ghost use Rattle.lin_model.specs.Conditions.{PlainCondition};
-ghost use Rattle.lin_text.specs.Small.{IsSmall, single};
-ghost use Rattle.green_cli.specs.Answers.{AreRight};
+//! Answering the session of a source.
+ghost use Rattle.std.specs.Prelude.{◌≡◌, ◌↔◌, IsTrue, MatchResult, Any};
 ghost use Rattle.green_cli.specs.AnswersText.{answers_text};
-ghost use Rattle.green_cli.specs.Solve.{Solves, IsEmpty};
+ghost use Rattle.green_cli.specs.Solve.{HasUnknown, IsUnknown, Solves};
 ghost use Rattle.green_cli.specs.Statuses.{HasReason};
 
-use crate::answer::{Plain, PlainPart};
+use crate::answering::answer_session;
 use crate::answers_text::write_answers;
-use crate::decide::decide;
 use crate::fault::Fault;
 use crate::input::read_input;
 use crate::outcome::Report;
-use lin_model::{Condition, Script, Session};
-use lin_text::read_small;
-use outside::{NoMemory, Source};
+use crate::words::Budget;
+use outside::Source;
+use pipeline::{Plain, Told};
+use session_text::read_session;
 use sqlite_items::Items;
 use std::alloc::Global;
 
@@ -26,50 +23,37 @@ pub struct Solved {
 }
 
 /// Reads a session from the source, answers it, and spells the answers.
-pub fn solve<S: Source>(alloc: Global, source: &mut S) -> Result<Solved, Fault>
+pub fn solve<S: Source>(alloc: Global, budget: Budget, source: &mut S) -> Result<Solved, Fault>
     ensures { MatchResult result
-        (λ solved. Solves (S.left source.old) (S.left source.new) solved.report
+        (λ solved. Solves budget (S.left source.old) (S.left source.new) solved.report
         × (solved.text.items ≡ answers_text solved.report.session solved.report.answers))
-        (λ fault. HasReason fault (S.left source.old) (S.left source.new) (S.faults source.old) (S.faults source.new)) }
+        (λ fault. HasReason ⊥ fault (S.left source.old) (S.left source.new) (S.faults source.old) (S.faults source.new)) }
 {
     let bytes = read_input(alloc, source)?;
-    let Some(query) = read_small(alloc, bytes.as_slice())? else {
-        return Err(Fault::Later);
-    };
-    let report = answer(alloc, query)?;
-    let text = write_answers(alloc, &report.session, report.answers.as_slice())?;
+    let session = read_session(alloc, bytes.as_slice())?;
+    let answers = answer_session(alloc, budget, &session)?;
+    let text = write_answers(alloc, &session, answers.as_slice())?;
+    let report = Report { session, answers };
     Ok(Solved { report, text })
 }
 
-/// The report on a small query.
-fn answer(alloc: Global, query: Condition) -> Result<Report, NoMemory>
-    requires { IsSmall query }
-    ensures session { IfOk result (λ report. report.session ≡ single query) }
-    ensures answers { IfOk result (λ report. AreRight report.session report.answers) }
+/// Whether some query was left undecided.
+pub fn has_unknown(answers: &[Items<Plain>]) -> bool
+    ensures { IsTrue result ↔ HasUnknown answers.now }
 {
-    let verdict = decide(alloc, &query)?;
-    let parts = Items::from_slice(alloc, &[PlainPart::Solved])?;
-    let answers = alone(alloc, alone(alloc, Plain { verdict, parts })?)?;
-    let session = single_session(alloc, query)?;
-    Ok(Report { session, answers })
+    answers
+        .iter()
+        .any(|script| script_has_unknown(script.as_slice()))
 }
 
-/// A list of one item.
-fn alone<T: Drop>(alloc: Global, item: T) -> Result<Items<T>, NoMemory>
-    ensures { IfOk result (λ items. items ≡ item ∷ []) }
+fn script_has_unknown(answers: &[Plain]) -> bool
+    ensures { IsTrue result ↔ Any (λ answer. IsUnknown answer.verdict) answers.now }
 {
-    let mut items = Items::new(alloc);
-    items.push(item)?;
-    Ok(items)
+    answers.iter().any(|answer| is_unknown(&answer.verdict))
 }
 
-/// The session of one executor with one query.
-fn single_session(alloc: Global, query: Condition) -> Result<Session, NoMemory>
-    ensures { IfOk result (λ session. session ≡ single query) }
+fn is_unknown(verdict: &Told) -> bool
+    ensures { IsTrue result ↔ IsUnknown verdict.now }
 {
-    let mut queries = Vec::new(alloc);
-    queries.push(query)?;
-    let mut executors = Vec::new(alloc);
-    executors.push(Script::new(queries))?;
-    Ok(Session::new(executors))
+    matches!(verdict, Told::Unknown(_))
 }

@@ -2,7 +2,7 @@ use Rattle.std.proofs.Common.{◌≡◌, drop, ◌+◌, ◌<◌, ◌∙◌, ◌+
 use Rattle.std.proofs.lemmas.List.{drop_all}
 use Rattle.lin_model.specs.Conditions.{PlainCondition}
 use Rattle.lin_text.specs.Spelling.{line}
-use Rattle.green_cli.specs.declared.answer.Plain.{Plain}
+use Rattle.pipeline.specs.declared.answer.Plain.{Plain}
 use Rattle.green_cli.specs.AnswersText.{solved_count, script_text}
 use Rattle.green_cli.proofs.TextLemmas.{carry, done, executors_step, executors_end, count_all_step, next_executors, answers_read, zip_length}
 use Rattle.green_cli.proofs.answers_text.push_executors.Goals as goal

@@ -1,0 +1,37 @@
+-- The lines that tell of a fault.
+use Rattle.std.specs.Prelude.{ℕ, List, ◌++◌, codes, decimal}
+use Rattle.lin_text.specs.Spelling.{line}
+use Rattle.lin_text.specs.declared.fault.SessionFault.{SessionFault}
+use Rattle.lin_text.specs.declared.fault.SessionKind.{SessionKind}
+use Rattle.lin_text.specs.declared.fault.SessionKind.TheVariants.{BadHeader, TooManyExecutors, TooManyQueries, NoEnd, Token, Syntax, NumberTooLarge, UnknownName, NameTwice, EmptyRange, TooManyVars, TooManyAtoms, TooManyTerms, NoMemory}
+use Rattle.green_cli.specs.declared.fault.Fault.{Fault}
+use Rattle.green_cli.specs.declared.fault.Fault.TheVariants.{Usage, Text, Read, Memory, TooLong}
+
+-- the printed name of each kind of fault; no text has the last one
+unfoldable pub kind_text : SessionKind → List ℕ
+kind_text BadHeader = codes "bad-header"
+kind_text TooManyExecutors = codes "too-many-executors"
+kind_text TooManyQueries = codes "too-many-queries"
+kind_text TooManyVars = codes "too-many-vars"
+kind_text TooManyAtoms = codes "too-many-atoms"
+kind_text TooManyTerms = codes "too-many-terms"
+kind_text Token = codes "token"
+kind_text Syntax = codes "syntax"
+kind_text NumberTooLarge = codes "number-too-large"
+kind_text UnknownName = codes "unknown-name"
+kind_text NameTwice = codes "name-twice"
+kind_text EmptyRange = codes "empty-range"
+kind_text NoEnd = codes "no-end"
+kind_text NoMemory = codes "no-memory"
+
+-- a fault of a text: its line, its column and its kind
+unfoldable pub text_line : SessionFault → List ℕ
+text_line told = line (codes "fault text " ++ decimal told.line ++ codes " " ++ decimal told.column ++ codes " " ++ kind_text told.kind)
+
+-- the line of each fault
+unfoldable pub line_of : Fault → List ℕ
+line_of Usage = line (codes "fault usage")
+line_of (Text told) = text_line told
+line_of Read = line (codes "fault read")
+line_of Memory = line (codes "fault memory")
+line_of TooLong = line (codes "fault too-long")

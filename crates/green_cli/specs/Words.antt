@@ -1,0 +1,55 @@
+-- What the words of a command line ask for.
+use Rattle.std.specs.Prelude.{◌≡◌, ℕ, ◌≤◌, List, Option, Some, None, true, codes, length, slice_get}
+use Rattle.std.specs.Str.Parse.{IsNumeral, digits_value}
+use Rattle.clap.specs.Words.{App, Rule, Text, first_of, matches_of, new_app, new_rule, takes, with_rule}
+use Rattle.clap.specs.declared.builder.action.ArgAction.TheVariants.{Set}
+use Rattle.green_cli.specs.declared.words.Command.{Command}
+use Rattle.green_cli.specs.declared.words.Command.TheVariants.{Solve}
+
+-- the option `--budget`, whose one value is any text
+abbrev pub budget_option : Rule
+budget_option = record (new_rule (codes "budget")) { long = Some (codes "budget"); action = Some Set }
+
+-- the command of `clap` for the words after `solve`: this option, and the flags that each command has
+abbrev pub solve_line : App
+solve_line = with_rule (new_app (codes "solve")) budget_option
+
+-- the text is 1 to 10 digits, without a sign, of the number n; zeros may lead
+pub record IsNumber (text : Text) (n : ℕ) : Type 0 where
+  pub digits : IsNumeral 10 text
+  pub short : length text ≤ 10
+  pub value : digits_value 10 text ≡ n
+
+-- the text is a number from 1 to 100,000
+pub record SpellsBudget (text : Text) (splits : ℕ) : Type 0 where
+  pub number : IsNumber text splits
+  pub some : 1 ≤ splits
+  pub few : splits ≤ 100000
+
+-- the budget by the value of `--budget`, and 4,096 where there is none
+abbrev pub IsBudget : Option Text → ℕ → Type 0
+IsBudget None splits = splits ≡ 4096
+IsBudget (Some text) splits = SpellsBudget text splits
+
+-- `clap` takes the words after the first: it knows them, none asks for help, and no option comes twice
+unfoldable pub AreTaken : List Text → Type 0
+AreTaken words = takes solve_line words ≡ true
+
+-- the value of `--budget`, in the matches that `clap` defines for the words after the first
+unfoldable pub budget_text : List Text → Option Text
+budget_text words = first_of (codes "budget") (matches_of solve_line words)
+
+-- the first word is `solve`, the words after it are taken, and the value among them gives the budget
+pub record AsksToSolve (words : List Text) (splits : ℕ) : Type 0 where
+  pub first : slice_get words 0 ≡ Some (codes "solve")
+  pub taken : AreTaken words
+  pub budget : IsBudget (budget_text words) splits
+
+-- the command is what the words ask for
+abbrev pub IsCommand : List Text → Command → Type 0
+IsCommand words (Solve splits) = AsksToSolve words splits
+
+-- the words ask for some command
+pub record AreCommand (words : List Text) : Type 0 where
+  pub command : Command
+  pub asked : IsCommand words command
