@@ -17,7 +17,6 @@ pub mod VarLines
 pub mod QueryLines
 pub mod QueryReads
 pub mod OneFault
-mod SmallLemmas
 pub mod ReadBackTokens
 mod ReadBackWords
 mod ReadBackSides

@@ -1,4 +1,3 @@
-pub mod Small
 pub mod Spelling
 pub mod Lines
 pub mod Runs

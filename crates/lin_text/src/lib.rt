@@ -12,9 +12,7 @@ mod push;
 mod query;
 mod refusal;
 mod run;
-mod shape;
 mod side;
-mod small;
 #[cfg(test)]
 mod tests;
 mod token;
@@ -29,6 +27,5 @@ pub use lines::{column, line_below, line_number, next_line};
 pub use push::{push_integer, push_number, push_str};
 pub use query::{read_lines, read_query};
 pub use refusal::{Fault, ReadError};
-pub use small::read_small;
 pub use token::{Token, TokenKind, next_token};
 pub use write::{push_query, write_query};
