@@ -1,7 +1,7 @@
 -- Small worked values of the definitions.
-use Rattle.std.proofs.Common.{◌≡◌, ◌<◌, ℕ, List, [], length, refl, sym, ap, arith}
+use Rattle.std.proofs.Common.{◌≡◌, [], length, refl, sym, ap, arith}
 use Rattle.std.specs.Prelude.{codes}
-use Rattle.lin_text.specs.declared.fault.SessionKind.TheVariants.{BadHeader, NoEnd, Syntax}
+use Rattle.lin_text.specs.declared.fault.SessionKind.TheVariants.{NoEnd, Syntax}
 use Rattle.lin_text.specs.Lines.{is_skipped, first_line}
 use Rattle.lin_text.specs.Tokens.{token_from, token_here, token_length}
 use Rattle.lin_text.specs.Pieces.{word, plain_token, piece_of, name_piece}
@@ -9,7 +9,7 @@ use Rattle.session_text.specs.Words.{green_word, one_digit, executor_word, query
 use Rattle.session_text.specs.Sessions.{SpellsSession}
 use Rattle.session_text.specs.Faults.{nothing_seen, HasFault}
 use Rattle.session_text.proofs.WordLemmas.{executor_not_query, query_not_end}
-use Rattle.session_text.proofs.Wholes.{bad_header, whole_fault, no_end, first_refused}
+use Rattle.session_text.proofs.Wholes.{whole_fault, no_end, first_refused}
 use Rattle.session_text.proofs.Steps.{cant_begin}
 
 -- the header and the end line alone spell the session of no executors
