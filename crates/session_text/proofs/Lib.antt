@@ -12,3 +12,4 @@ pub mod SessionOnce
 pub mod SessionNoFault
 pub mod SessionOrFault
 pub mod SessionWritten
+mod Worked

@@ -11,7 +11,7 @@ use Rattle.lin_text.specs.Lines.{line_from, line_below}
 use Rattle.lin_text.specs.Pieces.{Piece, word, line_end}
 use Rattle.lin_text.proofs.Positions.{first_line-bounds}
 use Rattle.lin_text.proofs.SpelledOrFault.{spelled_or_fault}
-use Rattle.session_text.specs.Words.{green_word, one_digit, executor_word, query_word, end_word, token_at, second_at, third_at, text_of, IsHeader, IsWordLine}
+use Rattle.session_text.specs.Words.{green_word, one_digit, executor_word, query_word, end_word, token_at, second_at, third_at, text_of, IsHeader, IsWordLine, BeginsWith}
 use Rattle.session_text.specs.Sessions.{IsQuery, AreQueries, IsExecutor, AreExecutors, IsEnd, body_of, SpellsSession}
 use Rattle.session_text.specs.Faults.{Seen, header, executor, ended, HasFault}
 use Rattle.session_text.specs.Laws.{SpelledOrFaulty}
@@ -60,10 +60,6 @@ is_header bytes at =
       | inr other ↦ inr (λ h. other h.green)
     ]
 
--- the word begins the first line from a place on
-abbrev Begins : List ℕ → ℕ → List ℕ → Type 0
-Begins bytes at w = (token_at bytes (line_from bytes at)).piece ≡ word w
-
 abbrev Faulty : Seen → List ℕ → ℕ → Type 0
 Faulty seen bytes at = (kind : SessionKind) × (place : ℕ) × HasFaultFrom seen bytes at kind place
 
@@ -72,7 +68,7 @@ Faulty seen bytes at = (kind : SessionKind) × (place : ℕ) × HasFaultFrom see
 abbrev OneQuery : List ℕ → ℕ → ℕ → ℕ → Type 0
 OneQuery bytes e n at = ((q : PlainCondition) × (stop : ℕ) × IsQuery bytes at q stop × (n ≡ 100000 → ⊥)) ⊎ Faulty (asked e n) bytes at
 
-one_query_here : (bytes : List ℕ) (e n at : ℕ) → Begins bytes at query_word → OneQuery bytes e n at
+one_query_here : (bytes : List ℕ) (e n at : ℕ) → BeginsWith query_word bytes at → OneQuery bytes e n at
 one_query_here bytes e n at begins =
     elim (is_number n 100000) [
       | inl full ↦ inr (kinds.TooManyQueries, (token_at bytes (line_from bytes at)).from, too_many_queries bytes (asked e n) at (λ ps. refl) begins full)
@@ -93,7 +89,7 @@ one_query_here bytes e n at begins =
 -- queries, up to the first line that is none
 
 abbrev Queries : List ℕ → ℕ → ℕ → ℕ → Type 0
-Queries bytes e n at = ((qs : List PlainCondition) × (stop : ℕ) × AreQueries bytes at qs stop × (n + length qs ≤ 100000) × (Begins bytes stop query_word → ⊥)) ⊎ Faulty (asked e n) bytes at
+Queries bytes e n at = ((qs : List PlainCondition) × (stop : ℕ) × AreQueries bytes at qs stop × (n + length qs ≤ 100000) × (BeginsWith query_word bytes stop → ⊥)) ⊎ Faulty (asked e n) bytes at
 
 queries_here : (fuel : ℕ) (bytes : List ℕ) (e n at : ℕ) → n ≤ 100000 → length bytes - at < fuel → Queries bytes e n at
 queries_here zero bytes e n at few less = absurd (omega (arith, less))
@@ -114,9 +110,9 @@ queries_here (suc fuel) bytes e n at few less =
 -- one executor
 
 abbrev OneExecutor : List ℕ → ℕ → ℕ → ℕ → Type 0
-OneExecutor bytes e n at = ((qs : List PlainCondition) × (stop : ℕ) × IsExecutor bytes at qs stop × (e ≡ 64 → ⊥) × (n + length qs ≤ 100000) × (Begins bytes stop query_word → ⊥)) ⊎ Faulty (between e n) bytes at
+OneExecutor bytes e n at = ((qs : List PlainCondition) × (stop : ℕ) × IsExecutor bytes at qs stop × (e ≡ 64 → ⊥) × (n + length qs ≤ 100000) × (BeginsWith query_word bytes stop → ⊥)) ⊎ Faulty (between e n) bytes at
 
-one_executor_here : (bytes : List ℕ) (e n at : ℕ) → n ≤ 100000 → Begins bytes at executor_word → OneExecutor bytes e n at
+one_executor_here : (bytes : List ℕ) (e n at : ℕ) → n ≤ 100000 → BeginsWith executor_word bytes at → OneExecutor bytes e n at
 one_executor_here bytes e n at few begins =
     elim (is_number e 64) [
       | inl full ↦ inr (kinds.TooManyExecutors, (token_at bytes (line_from bytes at)).from, too_many_executors bytes (between e n) at (between-no_query e) begins full)
@@ -137,9 +133,9 @@ one_executor_here bytes e n at few begins =
 -- executors, up to the first line that is none
 
 abbrev Executors : List ℕ → ℕ → ℕ → ℕ → Type 0
-Executors bytes e n at = ((es : List (List PlainCondition)) × (stop : ℕ) × AreExecutors bytes at es stop × (e + length es ≤ 64) × (n + sum_by length es ≤ 100000) × (Begins bytes stop executor_word → ⊥) × (Begins bytes stop query_word → e + length es ≡ 0)) ⊎ Faulty (between e n) bytes at
+Executors bytes e n at = ((es : List (List PlainCondition)) × (stop : ℕ) × AreExecutors bytes at es stop × (e + length es ≤ 64) × (n + sum_by length es ≤ 100000) × (BeginsWith executor_word bytes stop → ⊥) × (BeginsWith query_word bytes stop → e + length es ≡ 0)) ⊎ Faulty (between e n) bytes at
 
-executors_here : (fuel : ℕ) (bytes : List ℕ) (e n at : ℕ) → e ≤ 64 → n ≤ 100000 → (Begins bytes at query_word → e ≡ 0) → length bytes - at < fuel → Executors bytes e n at
+executors_here : (fuel : ℕ) (bytes : List ℕ) (e n at : ℕ) → e ≤ 64 → n ≤ 100000 → (BeginsWith query_word bytes at → e ≡ 0) → length bytes - at < fuel → Executors bytes e n at
 executors_here zero bytes e n at few few_queries no_query less = absurd (omega (arith, less))
 executors_here (suc fuel) bytes e n at few few_queries no_query less =
     elim (is_this_word (token_at bytes (line_from bytes at)).piece executor_word) [
@@ -177,7 +173,7 @@ rest_here bytes e n at line =
           inr (_, _, (Leads-end bytes (part_after e) e n at below (between-no_query e) (between-end e) line).back _ _ (first_refused bytes (behind_end e n) below (λ ps. refl) (omega (arith, some, b.1, length-drop below bytes)) (λ x. x.may)))
     ]
 
-end_here : (bytes : List ℕ) (e n at : ℕ) → at ≤ length bytes → (Begins bytes at executor_word → ⊥) → (Begins bytes at query_word → e ≡ 0) → AnEnd bytes e n at
+end_here : (bytes : List ℕ) (e n at : ℕ) → at ≤ length bytes → (BeginsWith executor_word bytes at → ⊥) → (BeginsWith query_word bytes at → e ≡ 0) → AnEnd bytes e n at
 end_here bytes e n at within no_executor no_query =
     elim (is_this_word (token_at bytes (line_from bytes at)).piece end_word) [
       | inl begins ↦ elim (is_line_end (second_at bytes (line_from bytes at)).piece) [

@@ -20,7 +20,7 @@ use Rattle.session_text.specs.Sessions.{AreQueries, AreExecutors, IsEnd, body_of
 use Rattle.session_text.specs.Laws.{WrittenIsSpelled}
 
 -- a text that begins with a line of one word, of so many bytes
-record BeginsLine (w text more : List ℕ) (n : ℕ) : Type 0 where
+record WordText (w text more : List ℕ) (n : ℕ) : Type 0 where
   blank : prefix_len is_blank text ≡ 0
   to : (front_of text).to ≡ n
   piece : front_piece false text ≡ word w
@@ -28,15 +28,15 @@ record BeginsLine (w text more : List ℕ) (n : ℕ) : Type 0 where
   rest : drop n text ≡ 10 ∷ more
   in_line : prefix_len is_in_line text ≡ n
 
-executor_begins : (more : List ℕ) → BeginsLine executor_word (codes "executor\n" ++ more) more 8
+executor_begins : (more : List ℕ) → WordText executor_word (codes "executor\n" ++ more) more 8
 unfolding executor_word is_skipped token_here token_length piece_of name_piece
 executor_begins more = record { blank = refl; to = refl; piece = refl; counts = refl; rest = refl; in_line = refl }
 
-query_begins : (more : List ℕ) → BeginsLine query_word (codes "query\n" ++ more) more 5
+query_begins : (more : List ℕ) → WordText query_word (codes "query\n" ++ more) more 5
 unfolding query_word is_skipped token_here token_length piece_of name_piece
 query_begins more = record { blank = refl; to = refl; piece = refl; counts = refl; rest = refl; in_line = refl }
 
-end_begins : (more : List ℕ) → BeginsLine end_word (codes "end\n" ++ more) more 3
+end_begins : (more : List ℕ) → WordText end_word (codes "end\n" ++ more) more 3
 unfolding end_word is_skipped token_here token_length piece_of name_piece
 end_begins more = record { blank = refl; to = refl; piece = refl; counts = refl; rest = refl; in_line = refl }
 
@@ -45,7 +45,7 @@ unfolding token_here piece_of
 feed_ends more = refl
 
 -- such a line within a text
-word_line : (bytes : List ℕ) (at : ℕ) (w text more : List ℕ) (n : ℕ) → at ≤ length bytes → drop at bytes ≡ text → BeginsLine w text more n → IsWordLine w bytes at (at + (n + 1))
+word_line : (bytes : List ℕ) (at : ℕ) (w text more : List ℕ) (n : ℕ) → at ≤ length bytes → drop at bytes ≡ text → WordText w text more n → IsWordLine w bytes at (at + (n + 1))
 word_line bytes at w text more n le e is = record { begins = ap (λ (m : ℕ). (token_at bytes m).piece) here ∙ piece_here; ends = ap (λ (m : ℕ). (second_at bytes m).piece) here ∙ second; next = next }
   where
     here : line_from bytes at ≡ at

@@ -16,7 +16,7 @@ use Rattle.session_text.specs.Sessions.{IsQuery, AreQueries, IsExecutor, AreExec
 use Rattle.session_text.specs.Classes.{class_of, refusal_kind}
 use Rattle.session_text.specs.Faults.{Seen, header, executor, nothing_seen, MayBegin, CanCome}
 use Rattle.session_text.specs.declared.refusal.Counts.{Counts}
-use Rattle.session_text.specs.Reading.{HasFaultFrom, IsReadError, IsSessionError, seen_with, part_after}
+use Rattle.session_text.specs.Reading.{HasFaultFrom, IsFaultFrom, IsReadError, IsSessionError, seen_with, part_after}
 use Rattle.session_text.proofs.WordLemmas.{executor_not_query, executor_not_end, query_not_end}
 use Rattle.session_text.proofs.FirstFaults.{Leads}
 use Rattle.session_text.proofs.QueryFaults.{asked, Cut, cut}
@@ -139,9 +139,6 @@ cant_begin e p no_executor no_query no_end x =
     at_executor some (inr (inr w)) = no_end (is ∙ ap word w)
 
 -- a fault that is handed on, where nothing takes memory
-
-abbrev pub IsFaultFrom : Seen → List ℕ → ℕ → Fault → Type 0
-IsFaultFrom s bytes at f = HasFaultFrom s bytes at f.kind f.at
 
 pub fault_up : {X : Type 0} (r : Result X Fault) (f : Fault) (bytes : List ℕ) (s : Seen) (at : ℕ) → IsErrAnd r (λ x. x ≡ f) → IsFaultFrom s bytes at f → IfErr r (IsFaultFrom s bytes at)
 fault_up (Ok x) f bytes s at is h = tt

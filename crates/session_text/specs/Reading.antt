@@ -3,6 +3,7 @@ use Rattle.std.specs.Prelude.{ℕ, ◌==◌, false, List, if◌then◌else◌}
 use Rattle.lin_text.specs.declared.fault.SessionKind.{SessionKind}
 use Rattle.lin_text.specs.Pieces.{PlainLine, AreLines}
 use Rattle.session_text.specs.declared.refusal.Counts.{Counts}
+use Rattle.session_text.specs.declared.refusal.Fault.{Fault}
 use Rattle.session_text.specs.declared.refusal.ReadError.{ReadError}
 use Rattle.session_text.specs.declared.refusal.ReadError.TheVariants as errors
 use Rattle.session_text.specs.Faults.{Part, header, executor, Seen, StandsIn, IsFirst, HasFault}
@@ -13,10 +14,14 @@ pub record HasFaultFrom (seen : Seen) (bytes : List ℕ) (at : ℕ) (kind : Sess
   pub are : AreLines false bytes at lines
   pub first : IsFirst (StandsIn bytes seen lines) kind place
 
+-- it is that fault
+abbrev pub IsFaultFrom : Seen → List ℕ → ℕ → Fault → Type 0
+IsFaultFrom seen bytes at f = HasFaultFrom seen bytes at f.kind f.at
+
 -- memory ran out, or it is that fault
 abbrev pub IsReadError : Seen → List ℕ → ℕ → ReadError → Type 0
 IsReadError seen bytes at errors.Memory = Unit {0}
-IsReadError seen bytes at (errors.Fault f) = HasFaultFrom seen bytes at f.kind f.at
+IsReadError seen bytes at (errors.Fault f) = IsFaultFrom seen bytes at f
 
 -- what was seen, by what came last and how often the words came
 abbrev pub seen_with : Part → Counts → Seen
@@ -25,6 +30,10 @@ seen_with part counts = record { part = part; executors = counts.executors; quer
 -- what came last above a line that neither belongs to a query nor comes behind the end line
 abbrev pub part_after : ℕ → Part
 part_after executors = if executors == 0 then header else executor
+
+-- what was seen above an executor line or the end line, by how often the words came
+abbrev pub seen_between : Counts → Seen
+seen_between counts = seen_with (part_after counts.executors) counts
 
 -- memory ran out, or it is the fault of the whole text
 abbrev pub IsSessionError : List ℕ → ReadError → Type 0

@@ -46,3 +46,7 @@ pub record IsWordLine (w : List ℕ) (bytes : List ℕ) (at below : ℕ) : Type 
   pub begins : (token_at bytes (line_from bytes at)).piece ≡ word w
   pub ends : (second_at bytes (line_from bytes at)).piece ≡ line_end
   pub next : below ≡ line_below bytes (line_from bytes at)
+
+-- the first line from `at` on that isn't skipped begins with the word
+abbrev pub BeginsWith : List ℕ → List ℕ → ℕ → Type 0
+BeginsWith w bytes at = (token_at bytes (line_from bytes at)).piece ≡ word w

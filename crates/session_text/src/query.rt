@@ -1,9 +1,8 @@
 //! The queries of one executor.
 ghost use Rattle.std.specs.Prelude.{◌≡◌, ◌≢◌, ◌≤◌, ◌+◌, ◌↔◌, false, [], length, IsTrue, IfOk, IfErr};
 ghost use Rattle.lin_text.specs.Lines.{StartsLine, line_from};
-ghost use Rattle.lin_text.specs.Pieces.{word};
 ghost use Rattle.lin_text.specs.Queries.{Spells};
-ghost use Rattle.session_text.specs.Words.{query_word, token_at};
+ghost use Rattle.session_text.specs.Words.{query_word, token_at, BeginsWith};
 ghost use Rattle.session_text.specs.Classes.{class_of, query_refusal};
 ghost use Rattle.session_text.specs.Sessions.{IsQuery, AreQueries};
 ghost use Rattle.session_text.specs.Faults.{executor, query};
@@ -59,7 +58,7 @@ fn read_query(
     counts: Counts,
 ) -> Result<(Condition, usize), ReadError>
     requires starts { StartsLine bytes.now at }
-    requires begins { (token_at bytes.now (line_from bytes.now at)).piece ≡ word query_word }
+    requires begins { BeginsWith query_word bytes.now at }
     requires counts { counts.queries ≤ 100000 }
     ensures read { IfOk result (λ r. IsQuery bytes.now at r.0 r.1) }
     ensures few { IfOk result (λ r. counts.queries ≢ 100000) }
@@ -96,7 +95,7 @@ pub fn read_script(
     ensures read { IfOk result (λ r. AreQueries bytes.now start r.0 r.1) }
     ensures few { IfOk result (λ r. counts.queries + length r.0 ≤ 100000) }
     ensures starts { IfOk result (λ r. StartsLine bytes.now r.1) }
-    ensures ends { IfOk result (λ r. (token_at bytes.now (line_from bytes.now r.1)).piece ≢ word query_word) }
+    ensures ends { IfOk result (λ r. ¬ BeginsWith query_word bytes.now r.1) }
     ensures fault { IfErr result (IsReadError (seen_with executor counts) bytes.now start) }
 {
     let mut queries = Vec::new(alloc);

@@ -2,12 +2,11 @@
 ghost use Rattle.std.specs.Prelude.{◌≡◌, ◌≢◌, ◌≤◌, ◌+◌, ◌↔◌, length, sum_by, IsTrue, IfOk, IfErr, OnOk};
 ghost use Rattle.lin_model.specs.Conditions.{IsSession};
 ghost use Rattle.lin_text.specs.Lines.{StartsLine, line_from};
-ghost use Rattle.lin_text.specs.Pieces.{word};
-ghost use Rattle.session_text.specs.Words.{executor_word, query_word, token_at};
+ghost use Rattle.session_text.specs.Words.{executor_word, query_word, BeginsWith};
 ghost use Rattle.session_text.specs.Sessions.{IsExecutor, AreExecutors, IsEnd, SpellsSession};
 ghost use Rattle.session_text.specs.Faults.{ended, nothing_seen};
 ghost use Rattle.session_text.specs.Answers.{IsFault};
-ghost use Rattle.session_text.specs.Reading.{HasFaultFrom, IsReadError, IsSessionError, seen_with, part_after};
+ghost use Rattle.session_text.specs.Reading.{IsFaultFrom, IsReadError, IsSessionError, seen_with, seen_between};
 
 use crate::class::{Class, next_lexeme};
 use crate::line::{below_word, is_header, line_at};
@@ -26,15 +25,15 @@ fn read_executor(
     counts: Counts,
 ) -> Result<(Script, usize), ReadError>
     requires starts { StartsLine bytes.now at }
-    requires begins { (token_at bytes.now (line_from bytes.now at)).piece ≡ word executor_word }
+    requires begins { BeginsWith executor_word bytes.now at }
     requires executors { counts.executors ≤ 64 }
     requires queries { counts.queries ≤ 100000 }
     ensures read { IfOk result (λ r. IsExecutor bytes.now at r.0 r.1) }
     ensures few_executors { IfOk result (λ r. counts.executors ≢ 64) }
     ensures few_queries { IfOk result (λ r. counts.queries + length r.0 ≤ 100000) }
     ensures starts { IfOk result (λ r. StartsLine bytes.now r.1) }
-    ensures ends { IfOk result (λ r. (token_at bytes.now (line_from bytes.now r.1)).piece ≢ word query_word) }
-    ensures fault { IfErr result (IsReadError (seen_with (part_after counts.executors) counts) bytes.now at) }
+    ensures ends { IfOk result (λ r. ¬ BeginsWith query_word bytes.now r.1) }
+    ensures fault { IfErr result (IsReadError (seen_between counts) bytes.now at) }
 {
     let line = line_at(bytes, at);
     if counts.executors == MAX_EXECUTORS {
@@ -64,8 +63,8 @@ fn read_executors(alloc: Global, bytes: &[u8], start: usize) -> Result<Executors
     ensures executors { IfOk result (λ r. r.counts.executors ≡ length r.scripts.items) }
     ensures queries { IfOk result (λ r. r.counts.queries ≡ sum_by length r.scripts.items) }
     ensures starts { IfOk result (λ r. StartsLine bytes.now r.stop) }
-    ensures ends { IfOk result (λ r. (token_at bytes.now (line_from bytes.now r.stop)).piece ≢ word executor_word) }
-    ensures no_query { IfOk result (λ r. (token_at bytes.now (line_from bytes.now r.stop)).piece ≡ word query_word → r.counts.executors ≡ 0) }
+    ensures ends { IfOk result (λ r. ¬ BeginsWith executor_word bytes.now r.stop) }
+    ensures no_query { IfOk result (λ r. BeginsWith query_word bytes.now r.stop → r.counts.executors ≡ 0) }
     ensures fault { IfErr result (IsReadError nothing_seen bytes.now start) }
 {
     let mut scripts = Vec::new(alloc);
@@ -98,10 +97,10 @@ fn is_end(class: Class) -> bool
 /// input. The words came so often above it.
 fn read_end(bytes: &[u8], at: usize, counts: Counts) -> Result<(), Fault>
     requires starts { StartsLine bytes.now at }
-    requires no_executor { (token_at bytes.now (line_from bytes.now at)).piece ≢ word executor_word }
-    requires no_query { (token_at bytes.now (line_from bytes.now at)).piece ≡ word query_word → counts.executors ≡ 0 }
+    requires no_executor { ¬ BeginsWith executor_word bytes.now at }
+    requires no_query { BeginsWith query_word bytes.now at → counts.executors ≡ 0 }
     ensures read { OnOk result (IsEnd bytes.now at) }
-    ensures fault { IfErr result (λ f. HasFaultFrom (seen_with (part_after counts.executors) counts) bytes.now at f.kind f.at) }
+    ensures fault { IfErr result (IsFaultFrom (seen_between counts) bytes.now at) }
 {
     let line = line_at(bytes, at);
     if line.start == bytes.len() {
@@ -118,7 +117,7 @@ fn read_end(bytes: &[u8], at: usize, counts: Counts) -> Result<(), Fault>
 fn read_rest(bytes: &[u8], at: usize, counts: Counts) -> Result<(), Fault>
     requires { StartsLine bytes.now at }
     ensures read { OnOk result (line_from bytes.now at ≡ length bytes.now) }
-    ensures fault { IfErr result (λ f. HasFaultFrom (seen_with ended counts) bytes.now at f.kind f.at) }
+    ensures fault { IfErr result (IsFaultFrom (seen_with ended counts) bytes.now at) }
 {
     let line = line_at(bytes, at);
     if line.start == bytes.len() {
