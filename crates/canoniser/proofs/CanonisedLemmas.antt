@@ -107,7 +107,7 @@ IsCanonised-of c s canonical key fits one possible is =
     record {
       possible = possible.possible;
       numbered = refl;
-      vars = order_of-vars c s (HasNamed-slice c s fits one);
+      vars = order_of-vars c s (HasNamed-slice c s fits.in_range one);
       is_key = IsKeyOf-made c s canonical key possible.said is;
       width = width;
       same = HaveSameSolutions-made c s canonical key possible.said is;

@@ -24,3 +24,6 @@ mod CanonisedLemmas
 mod SelectLemmas
 mod SameKeyLemmas
 mod RepeatLemmas
+mod RenumberedLemmas
+mod NamedLemmas
+mod RenumberingLemmas

@@ -85,7 +85,7 @@ few_distinct xs n distinct below =
 pub order_of-distinct : (c : PlainCondition) (s : PlainSlice) → AllPairs ◌≢◌ (order_of c s)
 order_of-distinct c s = first_ones-distinct (flat_map atom_vars (atoms_of c s) ++ s.vars)
 
-Contains-flat_map : {X A : Type 0} (f : X → List A) (xs : List X) (x : X) (a : A) → Contains xs x → Contains (f x) a → Contains (flat_map f xs) a
+pub Contains-flat_map : {X A : Type 0} (f : X → List A) (xs : List X) (x : X) (a : A) → Contains xs x → Contains (f x) a → Contains (flat_map f xs) a
 Contains-flat_map f [] x a in_xs in_f = absurd (omega (arith, in_xs.1))
 Contains-flat_map {X} {A} f (y ∷ ys) x a in_xs in_f =
     elim (Contains-cases y ys x in_xs) [
@@ -94,12 +94,12 @@ Contains-flat_map {X} {A} f (y ∷ ys) x a in_xs in_f =
     ]
 
 -- some element's piece has it
-record Source {X A : Type 0} (f : X → List A) (xs : List X) (a : A) : Type 0 where
+pub record Source {X A : Type 0} (f : X → List A) (xs : List X) (a : A) : Type 0 where
   pub element : X
   pub among : Contains xs element
   pub piece : Contains (f element) a
 
-Source-flat_map : {X A : Type 0} (f : X → List A) (xs : List X) (a : A) → Contains (flat_map f xs) a → Source f xs a
+pub Source-flat_map : {X A : Type 0} (f : X → List A) (xs : List X) (a : A) → Contains (flat_map f xs) a → Source f xs a
 Source-flat_map f [] a has = absurd (omega (arith, has.1))
 Source-flat_map f (y ∷ ys) a has =
     elim (Contains-append_cases (f y) (flat_map f ys) a has) [

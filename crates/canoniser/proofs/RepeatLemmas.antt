@@ -44,7 +44,7 @@ first_ones-same xs ys more same =
     sym (g.gains xs refl) ∙ g.gains ys same
 
 -- numbers that are there add nothing
-first_ones-known : (xs more : List ℕ) → All (Contains xs) more → first_ones (xs ++ more) ≡ first_ones xs
+pub first_ones-known : (xs more : List ℕ) → All (Contains xs) more → first_ones (xs ++ more) ≡ first_ones xs
 first_ones-known xs [] known = ap first_ones (append-nil xs)
 first_ones-known xs (v ∷ more) known =
     let here : is_among (first_ones xs) v ≡ true = (is_among-tells (first_ones xs) v).1 ((Contains-first_ones xs v).1 (All-head (Contains xs) v more known)) in

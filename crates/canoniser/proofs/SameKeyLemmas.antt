@@ -1,6 +1,6 @@
 -- Slices with the same variables in the same order and the same atoms have the same keys.
 use Rattle.std.proofs.Common.{◌≡◌, ◌↔◌, ℕ, [], List, get_or, sym, subst, inl, inr}
-use Rattle.std.specs.List.{Contains}
+use Rattle.std.specs.List.{All, Contains}
 use Rattle.std.proofs.lemmas.List.Elements.{All-contains, Contains-get_or}
 use Rattle.lin_model.specs.Terms.{PlainVar}
 use Rattle.lin_model.specs.Conditions.{PlainCondition}
@@ -31,22 +31,31 @@ IsGiven-alike c s d t alike a given = elim given [
   | inr bound ↦ inr (subst (λ (order : List ℕ). IsBound d order a) alike.order (subst (λ (vars : List PlainVar). IsBound (record { vars = vars; atoms = [] }) (order_of c s) a) alike.vars bound))
 ]
 
-IsKeyOf-alike : (c : PlainCondition) (s : PlainSlice) (d : PlainCondition) (t : PlainSlice) → AreAlike c s d t → (key : List PlainKeyAtom) → IsKeyOf c s key → IsKeyOf d t key
-IsKeyOf-alike c s d t alike key is =
-    let back = AreAlike-sym c s d t alike in
-    let to = IsGiven-alike c s d t alike in
-    let from = IsGiven-alike d t c s back in
-    record {
-      defined = λ k x lt comes.
-          let atom = get_or (atoms_of d t) k x in
-          let there = (alike.atoms atom).1 (Contains-get_or (atoms_of d t) k x lt) in
-          All-contains (λ y. ¬ ComesTo (order_of c s) y never) (atoms_of c s) atom is.defined there (subst (λ (order : List ℕ). ComesTo order atom never) (sym alike.order) comes);
-      ascends = is.ascends;
-      just = λ a. (
-        λ has. IsStrongest-same (IsGiven c s) (IsGiven d t) to from a ((is.just a).0 has),
-        λ strongest. (is.just a).1 (IsStrongest-same (IsGiven d t) (IsGiven c s) from to a strongest),
-      );
-    }
+-- no atom of the slice is satisfied by no integers
+abbrev pub IsDefined : PlainCondition → PlainSlice → Type 0
+IsDefined c s = All (λ atom. ¬ ComesTo (order_of c s) atom never) (atoms_of c s)
+
+IsKeyOf-given : (c : PlainCondition) (s : PlainSlice) (d : PlainCondition) (t : PlainSlice) → (IsDefined c s → IsDefined d t) → ((a : PlainKeyAtom) → IsGiven c s a → IsGiven d t a) → ((a : PlainKeyAtom) → IsGiven d t a → IsGiven c s a) → (key : List PlainKeyAtom) → IsKeyOf c s key → IsKeyOf d t key
+IsKeyOf-given c s d t defined to from key is = record {
+  defined = defined is.defined;
+  ascends = is.ascends;
+  just = λ a. (
+    λ has. IsStrongest-same (IsGiven c s) (IsGiven d t) to from a ((is.just a).0 has),
+    λ strongest. (is.just a).1 (IsStrongest-same (IsGiven d t) (IsGiven c s) from to a strongest),
+  );
+}
+
+-- slices with the same given atoms have the same keys
+pub HaveSameKeys-given : (c : PlainCondition) (s : PlainSlice) (d : PlainCondition) (t : PlainSlice) → (IsDefined c s → IsDefined d t) → (IsDefined d t → IsDefined c s) → ((a : PlainKeyAtom) → IsGiven c s a → IsGiven d t a) → ((a : PlainKeyAtom) → IsGiven d t a → IsGiven c s a) → HaveSameKeys c s d t
+HaveSameKeys-given c s d t defined other_defined to from key = (IsKeyOf-given c s d t defined to from key, IsKeyOf-given d t c s other_defined from to key)
+
+IsDefined-alike : (c : PlainCondition) (s : PlainSlice) (d : PlainCondition) (t : PlainSlice) → AreAlike c s d t → IsDefined c s → IsDefined d t
+IsDefined-alike c s d t alike defined k x lt comes =
+    let atom = get_or (atoms_of d t) k x in
+    let there = (alike.atoms atom).1 (Contains-get_or (atoms_of d t) k x lt) in
+    All-contains (λ y. ¬ ComesTo (order_of c s) y never) (atoms_of c s) atom defined there (subst (λ (order : List ℕ). ComesTo order atom never) (sym alike.order) comes)
 
 pub HaveSameKeys-alike : (c : PlainCondition) (s : PlainSlice) (d : PlainCondition) (t : PlainSlice) → AreAlike c s d t → HaveSameKeys c s d t
-HaveSameKeys-alike c s d t alike key = (IsKeyOf-alike c s d t alike key, IsKeyOf-alike d t c s (AreAlike-sym c s d t alike) key)
+HaveSameKeys-alike c s d t alike =
+    let back = AreAlike-sym c s d t alike in
+    HaveSameKeys-given c s d t (IsDefined-alike c s d t alike) (IsDefined-alike d t c s back) (IsGiven-alike c s d t alike) (IsGiven-alike d t c s back)

@@ -43,7 +43,7 @@ is_nothing-tells [] = (λ so. refl, λ is. refl)
 is_nothing-tells (x ∷ xs) = (λ so. absurd (cc), λ is. absurd (cc))
 
 -- it names one of them
-abbrev NamesOne : List ℕ → Atom → Type 0
+abbrev pub NamesOne : List ℕ → Atom → Type 0
 NamesOne vars atom = (v : ℕ) × Contains vars v × Names atom v
 
 any_among-tells : (vars named : List ℕ) → (list_any (is_among vars) named ≡ true) ↔ ((v : ℕ) × Contains vars v × Contains named v)
@@ -52,7 +52,7 @@ any_among-tells vars named = (
   λ one. list_any-from_Any (is_among vars) named (one.2.0, one.0, one.2.1, one.2.2, (is_among-tells vars one.0).1 one.1),
 )
 
-belongs-tells : (vars : List ℕ) (atom : Atom) → 0 < length vars → (belongs vars atom ≡ true) ↔ NamesOne vars atom
+pub belongs-tells : (vars : List ℕ) (atom : Atom) → 0 < length vars → (belongs vars atom ≡ true) ↔ NamesOne vars atom
 belongs-tells [] atom some = absurd (omega arith)
 belongs-tells (v ∷ vs) atom some = any_among-tells (v ∷ vs) (atom_vars atom)
 
@@ -83,7 +83,7 @@ Selects-class c var s declared is =
       );
     }
 
-belongs-nothing : (vars : List ℕ) (atom : Atom) → vars ≡ [] → (belongs vars atom ≡ true) ↔ (atom_vars atom ≡ [])
+pub belongs-nothing : (vars : List ℕ) (atom : Atom) → vars ≡ [] → (belongs vars atom ≡ true) ↔ (atom_vars atom ≡ [])
 belongs-nothing [] atom none = is_nothing-tells (atom_vars atom)
 belongs-nothing (v ∷ vs) atom none = absurd (cc)
 

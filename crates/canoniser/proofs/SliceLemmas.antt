@@ -109,8 +109,8 @@ named_below c j v atom declared is names =
     ]
 
 -- a slice of linked variables has what its atoms name
-HasNamed-class : (c : PlainCondition) (var : ℕ) (s : PlainSlice) → Fits c.vars c.atoms → IsSliceOf c var s → HasNamed c s
-HasNamed-class c var s fits is j v has names =
+HasNamed-class : (c : PlainCondition) (var : ℕ) (s : PlainSlice) → NamesDeclared c → IsSliceOf c var s → HasNamed c s
+HasNamed-class c var s declared is j v has names =
     let one = (is.atoms.just j).0 has in
     let u = one.0 in
     let found = Found-from (slice_get c.atoms j) (λ atom. Names atom v) names in
@@ -118,7 +118,7 @@ HasNamed-class c var s fits is j v has names =
     let names_u : Names atom u = subst (λ (o : Option Atom). IsSomeAnd o (λ x. Names x u)) found.is one.2 in
     let within = slice_get_within c.atoms j atom found.is in
     let both : Any (λ x. Names x u × Names x v) c.atoms = (j, atom, within, get_or_from_slice_get c.atoms j atom atom found.is, (names_u, found.holds)) in
-    (is.vars.just v).1 (named_below c j v atom fits.in_range found.is found.holds, longer one.1 both)
+    (is.vars.just v).1 (named_below c j v atom declared found.is found.holds, longer one.1 both)
 
 HasNamed-free : (c : PlainCondition) (s : PlainSlice) → IsVariableFree (NamesNothingAt c.atoms) s → HasNamed c s
 HasNamed-free c s is j v has names =
@@ -132,11 +132,11 @@ HasNamed-front c [] s is has = absurd (omega (arith, has.1))
 HasNamed-front c (slice ∷ []) s is has = subst (HasNamed c) (only slice s has.0 has.1 has.2) (HasNamed-free c slice is)
 HasNamed-front c (slice ∷ another ∷ more) s is has = absurd is
 
-pub HasNamed-slice : (c : PlainCondition) (s : PlainSlice) → Fits c.vars c.atoms → IsSliceIn c s → HasNamed c s
-HasNamed-slice c s fits one =
+pub HasNamed-slice : (c : PlainCondition) (s : PlainSlice) → NamesDeclared c → IsSliceIn c s → HasNamed c s
+HasNamed-slice c s declared one =
     let all = one.all in
     let has : Contains (all.front ++ all.classes) s = rw all.joined at one.one in
     elim (Contains-append_cases all.front all.classes s has) [
       | inl in_front ↦ HasNamed-front c all.front s all.variable_free in_front
-      | inr in_classes ↦ HasNamed-class c (least s) s fits (All-contains (λ slice. IsSliceOf c (least slice) slice) all.classes s all.linked.each in_classes)
+      | inr in_classes ↦ HasNamed-class c (least s) s declared (All-contains (λ slice. IsSliceOf c (least slice) slice) all.classes s all.linked.each in_classes)
     ]

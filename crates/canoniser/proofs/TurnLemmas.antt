@@ -36,7 +36,7 @@ pub record IsOrder (c : PlainCondition) (order : List ℕ) : Type 0 where
 
 pub IsOrder-slice : (c : PlainCondition) (s : PlainSlice) (order : List ℕ) → Fits c.vars c.atoms → IsSliceIn c s → order ≡ order_of c s → IsOrder c order
 IsOrder-slice c s order fits one numbered =
-    let named = HasNamed-slice c s fits one in
+    let named = HasNamed-slice c s fits.in_range one in
     let of_slice : All (λ v. v < length c.vars) (order_of c s) = λ k d lt. order_of-below c s named one (get_or (order_of c s) k d) (Contains-get_or (order_of c s) k d lt) in
     let declared : All (λ v. v < length c.vars) order = subst (λ (o : List ℕ). All (λ v. v < length c.vars) o) (sym numbered) of_slice in
     let few_vars = fits.few_vars in

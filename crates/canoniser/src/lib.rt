@@ -17,4 +17,4 @@ mod strongest;
 pub use back::Back;
 pub use canonical::Canonical;
 pub use keys::canonise;
-pub use laws::{factors_keep_keys, repeating_keeps_keys};
+pub use laws::{factors_keep_keys, renumbering_keeps_keys, repeating_keeps_keys};
