@@ -20,10 +20,6 @@ repeated i c = record { vars = c.vars; atoms = take (i + 1) c.atoms ++ drop i c.
 abbrev pub RepeatingKeepsKeys : Type 0
 RepeatingKeepsKeys = (c : PlainCondition) (i : ℕ) (s t : PlainSlice) → Fits c.vars c.atoms → i < length c.atoms → IsSliceIn c s → IsSliceIn (repeated i c) t → s.vars ≡ t.vars → HaveSameKeys c s (repeated i c) t
 
--- where both sides of atoms are multiplied by positive numbers, a slice has the same keys
-abbrev pub FactorsKeepKeys : Type 0
-FactorsKeepKeys = (c d : PlainCondition) (s : PlainSlice) → IsScaled c d → HaveSameKeys c s d s
-
 -- each of the numbers below n has another one below n, from which the second function leads back
 pub record IsOneToOne (n : ℕ) (f g : ℕ → ℕ) : Type 0 where
   pub within : (v : ℕ) → v < n → f v < n
@@ -50,3 +46,7 @@ pub record IsRenumbered (f : ℕ → ℕ) (c d : PlainCondition) : Type 0 where
 abbrev pub RenumberingKeepsKeys : Type 0
 RenumberingKeepsKeys = (c d : PlainCondition) (s t : PlainSlice) (f g : ℕ → ℕ) → Fits c.vars c.atoms → IsOneToOne (length c.vars) f g → IsOneToOne (length c.vars) g f → IsRenumbered f c d → IsSliceIn c s → IsSliceIn d t
     → ((v : ℕ) → v < length c.vars → Contains s.vars v ↔ Contains t.vars (f v)) → HaveSameKeys c s d t
+
+-- where both sides of atoms are multiplied by positive numbers, a slice has the same keys
+abbrev pub FactorsKeepKeys : Type 0
+FactorsKeepKeys = (c d : PlainCondition) (s : PlainSlice) → IsScaled c d → HaveSameKeys c s d s
