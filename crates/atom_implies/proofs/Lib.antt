@@ -1,2 +1,2 @@
-pub mod TableLemmas
+mod TableLemmas
 mod Worked

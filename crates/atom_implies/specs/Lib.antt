@@ -1,2 +1,3 @@
 pub mod Implies
 pub mod Table
+pub mod Laws

@@ -6,7 +6,7 @@ mod laws;
 mod steps;
 
 pub use implication::implies;
-pub use laws::covered_keys_hold;
+pub use laws::{covered_keys_hold, table_is_right};
 pub use steps::Steps;
 
 #[cfg(test)]

@@ -7,6 +7,7 @@ use Rattle.lin_model.specs.declared.atom.Atom.{Atom}
 use Rattle.lin_model.specs.Truth.{AtomHolds}
 use Rattle.lin_model.specs.Form.{form_width}
 use Rattle.lin_model.specs.KeyAtom.{PlainKeyAtom, KeyAtomHolds}
+use Rattle.atom_implies.specs.Laws.{TableIsRight}
 use Rattle.slicer.specs.Slices.{PlainSlice}
 use Rattle.canoniser.specs.Forms.{always, never, says, ComesTo}
 use Rattle.canoniser.specs.Numbering.{atoms_of, order_of}
@@ -100,8 +101,8 @@ canonical_narrow order atoms canonical said k d lt =
     let any = said.only k d lt in
     says-narrow order any.1 (get_or canonical k d) any.4
 
-IsCanonised-of : (c : PlainCondition) (s : PlainSlice) (canonical key : List PlainKeyAtom) → Fits c.vars c.atoms → IsSliceIn c s → ArePossible c s canonical → IsKeyWithBounds c (order_of c s) canonical key → IsCanonised c s (order_of c s) key
-IsCanonised-of c s canonical key fits one possible is =
+IsCanonised-of : TableIsRight → (c : PlainCondition) (s : PlainSlice) (canonical key : List PlainKeyAtom) → Fits c.vars c.atoms → IsSliceIn c s → ArePossible c s canonical → IsKeyWithBounds c (order_of c s) canonical key → IsCanonised c s (order_of c s) key
+IsCanonised-of right c s canonical key fits one possible is =
     let order = order_of c s in
     let width = key_width-order c order canonical key is (canonical_narrow order (atoms_of c s) canonical possible.said) in
     record {
@@ -112,9 +113,9 @@ IsCanonised-of c s canonical key fits one possible is =
       width = width;
       same = HaveSameSolutions-made c s canonical key possible.said is;
       bounds = KeepsBounds-covered c order canonical key is;
-      bounded = IsBounded-covered c order canonical key is width;
+      bounded = IsBounded-covered right c order canonical key is width;
     }
 
-pub IsCanonised-made : (c : PlainCondition) (s : PlainSlice) (order : List ℕ) (canonical key : List PlainKeyAtom) → Fits c.vars c.atoms → IsSliceIn c s → order ≡ order_of c s → ArePossible c s canonical → IsKeyWithBounds c order canonical key → IsCanonised c s order key
-IsCanonised-made c s order canonical key fits one numbered possible is =
-    subst (λ (o : List ℕ). IsCanonised c s o key) (sym numbered) (IsCanonised-of c s canonical key fits one possible (subst (λ (o : List ℕ). IsKeyWithBounds c o canonical key) numbered is))
+pub IsCanonised-made : TableIsRight → (c : PlainCondition) (s : PlainSlice) (order : List ℕ) (canonical key : List PlainKeyAtom) → Fits c.vars c.atoms → IsSliceIn c s → order ≡ order_of c s → ArePossible c s canonical → IsKeyWithBounds c order canonical key → IsCanonised c s order key
+IsCanonised-made right c s order canonical key fits one numbered possible is =
+    subst (λ (o : List ℕ). IsCanonised c s o key) (sym numbered) (IsCanonised-of right c s canonical key fits one possible (subst (λ (o : List ℕ). IsKeyWithBounds c o canonical key) numbered is))

@@ -19,12 +19,12 @@ use Rattle.lin_model.specs.Bounded.{variable, GivesLower, GivesUpper, IsBounded}
 use Rattle.lin_model.proofs.KeyLemmas.{key_width-above}
 use Rattle.atom_implies.specs.Implies.{Implies, Covers}
 use Rattle.atom_implies.specs.Table.{table_says}
-use Rattle.atom_implies.proofs.TableLemmas.{table_is_right, HoldsWherever-implied}
+use Rattle.atom_implies.specs.Laws.{TableIsRight}
 use Rattle.canoniser.specs.Keys.{upper_atom, lower_atom, IsBound, IsStrongest}
 use Rattle.canoniser.specs.Strongest.{IsKeyWithBounds, IsOneOf, VarsFit}
 use Rattle.canoniser.specs.Solutions.{point_of, KeepsBounds}
 use Rattle.canoniser.proofs.Lookups.{Found, Found-from, IsSomeAnd-found}
-use Rattle.canoniser.proofs.ImplicationLemmas.{IsCovered, covered_has, Covers-each}
+use Rattle.canoniser.proofs.ImplicationLemmas.{implied_holds, IsCovered, covered_has, Covers-each}
 
 -- the value of a variable alone
 form_value-variable : (v : ℕ) (point : List ℤ) → form_value (variable v) point ≡ value_at point v
@@ -44,7 +44,7 @@ lower_holds v var point =
 -- what a key implies holds where the key does
 pub covered_holds : (key : List PlainKeyAtom) (a : PlainKeyAtom) (point : List ℤ) → IsCovered key a → KeyHolds key point → KeyAtomHolds a point
 covered_holds key a point covered holds =
-    HoldsWherever-implied covered.1 a covered.4 point (All-contains (λ b. KeyAtomHolds b point) key covered.1 holds (covered_has key a covered))
+    implied_holds covered.1 a point covered.4 (All-contains (λ b. KeyAtomHolds b point) key covered.1 holds (covered_has key a covered))
 
 -- the values of a slice's variables, by number
 value_at-point_of : (order : List ℕ) (values : List ℤ) (v : ℕ) → v < length order → value_at (point_of order values) v ≡ value_at values (slice_index order v)
@@ -153,31 +153,31 @@ lower_from Ge c d says = (inl refl, grind (arith, ints))
 lower_from Eq c d says = (inr refl, grind (arith, ints))
 lower_from Ne c d says = absurd (cc)
 
-GivesUpper-implied : (a : PlainKeyAtom) (v : ℕ) (var : PlainVar) → VarFits var → Implies a (upper_atom v var) → GivesUpper v a
-GivesUpper-implied a v var fits implied =
-    let from = upper_from a.op a.constant var.hi ((table_is_right a.op a.constant Le var.hi).1 implied.tests) in
+GivesUpper-implied : TableIsRight → (a : PlainKeyAtom) (v : ℕ) (var : PlainVar) → VarFits var → Implies a (upper_atom v var) → GivesUpper v a
+GivesUpper-implied right a v var fits implied =
+    let from = upper_from a.op a.constant var.hi ((right a.op a.constant Le var.hi).1 implied.tests) in
     let le = from.1 in
     let high = fits.high in
     record { form = implied.same_form; op = from.0; constant = omega (arith, ints) }
 
-GivesLower-implied : (a : PlainKeyAtom) (v : ℕ) (var : PlainVar) → VarFits var → Implies a (lower_atom v var) → GivesLower v a
-GivesLower-implied a v var fits implied =
-    let from = lower_from a.op a.constant var.lo ((table_is_right a.op a.constant Ge var.lo).1 implied.tests) in
+GivesLower-implied : TableIsRight → (a : PlainKeyAtom) (v : ℕ) (var : PlainVar) → VarFits var → Implies a (lower_atom v var) → GivesLower v a
+GivesLower-implied right a v var fits implied =
+    let from = lower_from a.op a.constant var.lo ((right a.op a.constant Ge var.lo).1 implied.tests) in
     let le = from.1 in
     let low = fits.low in
     record { form = implied.same_form; op = from.0; constant = omega (arith, ints) }
 
 -- each of the key's variables is held from below and from above
-pub IsBounded-covered : (c : PlainCondition) (order : List ℕ) (canonical key : List PlainKeyAtom) → IsKeyWithBounds c order canonical key → key_width key ≡ length order → IsBounded key
-IsBounded-covered c order canonical key is width = record {
+pub IsBounded-covered : TableIsRight → (c : PlainCondition) (order : List ℕ) (canonical key : List PlainKeyAtom) → IsKeyWithBounds c order canonical key → key_width key ≡ length order → IsBounded key
+IsBounded-covered right c order canonical key is width = record {
   lower = λ v lt.
       let found = BoundsCovered-found c order canonical key is v (omega arith) in
       let by = found.holds.lower in
-      (by.0, by.1, by.2, by.3, GivesLower-implied by.1 v found.value found.holds.fits by.4);
+      (by.0, by.1, by.2, by.3, GivesLower-implied right by.1 v found.value found.holds.fits by.4);
   upper = λ v lt.
       let found = BoundsCovered-found c order canonical key is v (omega arith) in
       let by = found.holds.upper in
-      (by.0, by.1, by.2, by.3, GivesUpper-implied by.1 v found.value found.holds.fits by.4);
+      (by.0, by.1, by.2, by.3, GivesUpper-implied right by.1 v found.value found.holds.fits by.4);
 }
 
 -- what follows from three facts of a value

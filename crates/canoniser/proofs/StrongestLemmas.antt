@@ -15,6 +15,7 @@ use Rattle.lin_model.specs.KeyAtom.{PlainKeyAtom}
 use Rattle.lin_model.specs.AtomOrder.{compare_forms, compare_atoms}
 use Rattle.lin_model.specs.Key.{Ascends}
 use Rattle.lin_model.proofs.OrderLemmas.{compare_atoms-total, compare_atoms-apart}
+use Rattle.atom_implies.specs.Laws.{TableIsRight}
 use Rattle.atom_implies.specs.Implies.{Implies, Covers}
 use Rattle.canoniser.specs.Keys.{IsStrongest}
 use Rattle.canoniser.specs.Parts.{IsPartOf, StandTogether}
@@ -99,15 +100,15 @@ same_from_apart key apart apart_back a b one two implied =
     ]
 
 -- a part that covers the whole, in which no atom implies another, has just the strongest
-pub IsStrongest-part : (key given : List PlainKeyAtom) → ((a : PlainKeyAtom) → Contains key a → Contains given a) → Covers key given → AllPairs (λ a b. ¬ Implies a b) key → AllPairs (λ a b. ¬ Implies b a) key → (a : PlainKeyAtom) → Contains key a ↔ IsStrongest (Contains given) a
-IsStrongest-part key given part covers apart apart_back a = (
+pub IsStrongest-part : TableIsRight → (key given : List PlainKeyAtom) → ((a : PlainKeyAtom) → Contains key a → Contains given a) → Covers key given → AllPairs (λ a b. ¬ Implies a b) key → AllPairs (λ a b. ¬ Implies b a) key → (a : PlainKeyAtom) → Contains key a ↔ IsStrongest (Contains given) a
+IsStrongest-part right key given part covers apart apart_back a = (
   λ has. record {
     one = part a has;
     alone = λ b in_given implied.
         let covered = Covers-each key given covers b in_given in
         let same : covered.1 ≡ a = same_from_apart key apart apart_back covered.1 a (covered_has key b covered) has (Implies-trans covered.1 b a covered.4 implied) in
         let back : Implies a b = subst (λ (x : PlainKeyAtom). Implies x b) same covered.4 in
-        Implies-antisym b a implied back;
+        Implies-antisym right b a implied back;
   },
   λ strongest.
       let covered = Covers-each key given covers a strongest.one in

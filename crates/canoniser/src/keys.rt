@@ -10,6 +10,7 @@ use crate::canonical::Canonical;
 use crate::numbering::order_of;
 use crate::said::{Said, said_of};
 use crate::strongest::strongest;
+use atom_implies::table_is_right;
 use lin_model::{Condition, Key, KeyAtom};
 use outside::NoMemory;
 use slicer::Slice;
@@ -21,6 +22,7 @@ pub fn canonise(alloc: Global, c: &Condition, s: &Slice) -> Result<Canonical, No
     requires { IsSliceIn c.now s.now }
     ensures { IfOk result (Canonises c.now s.now) }
 {
+    table_is_right();
     let order = order_of(alloc, c, s)?;
     match said_of(alloc, c, s, &order)? {
         Said::Never(j) => Ok(Canonical::False(j)),

@@ -18,3 +18,6 @@ pub use back::Back;
 pub use canonical::Canonical;
 pub use keys::canonise;
 pub use laws::{factors_keep_keys, renumbering_keeps_keys, repeating_keeps_keys};
+
+#[cfg(test)]
+mod tests;

@@ -9,7 +9,7 @@ ghost use Rattle.canoniser.specs.Keys.{IsStrongest};
 ghost use Rattle.canoniser.specs.Parts.{IsPartOf, StandTogether};
 
 use crate::implied::without_implied;
-use atom_implies::Steps;
+use atom_implies::{Steps, table_is_right};
 use lin_model::{Key, KeyAtom, cmp_atoms};
 use outside::NoMemory;
 use std::alloc::Global;
@@ -26,6 +26,7 @@ pub(crate) fn strongest(alloc: Global, atoms: Vec<KeyAtom>) -> Result<Key, NoMem
 {
     let sorted = sorted(atoms);
     let kept = unimplied::<Brand>(alloc, sorted, Blank::new(1))?;
+    table_is_right();
     match Key::of(kept) {
         Ok(key) => Ok(key),
         Err(_) => unreachable!(),

@@ -25,4 +25,4 @@ returns-in_ok-key-in-Possible c =
     let order = c.in_ok-order.order.items in
     let key = c.in_ok-key-in-Possible.key in
     let is : IsKeyWithBounds c.args.c.now order c.in-Possible.atoms.items key = rw c.deref-in-Possible.ensures.value at c.in_ok-key-in-Possible.ensures in
-    rw c.new-back.ensures (IsCanonised-made c.args.c.now c.args.s.now order c.in-Possible.atoms.items key c.in_ok-j.ensures.fits c.requires c.in_ok-order.ensures possible is)
+    rw c.new-back.ensures (IsCanonised-made c.table_is_right.ensures c.args.c.now c.args.s.now order c.in-Possible.atoms.items key c.in_ok-j.ensures.fits c.requires c.in_ok-order.ensures possible is)

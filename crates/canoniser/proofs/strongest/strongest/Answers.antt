@@ -32,7 +32,7 @@ returns-clause-just c =
     let given = c.args.atoms.items in
     let covers : Covers kept given = Covers-from_each kept given (λ b has. Covers-each kept sorted c.in_ok-kept.ensures.covers b (Contains-moved given sorted c.sorted-sorted.ensures.permutation b has)) in
     let part : (a : PlainKeyAtom) → Contains kept a → Contains given a = λ a has. Contains-same given sorted c.sorted-sorted.ensures.permutation a (Contains-part kept sorted a c.in_ok-kept.ensures.part has) in
-    rw c.in-Ok.ensures.key (IsStrongest-part kept given part covers c.in_ok-kept.ensures.apart c.in_ok-kept.ensures.apart_back)
+    rw c.in-Ok.ensures.key (IsStrongest-part c.table_is_right.ensures kept given part covers c.in_ok-kept.ensures.apart c.in_ok-kept.ensures.apart_back)
 
 pub returns-clause-covers : goal.returns-clause-covers
 returns-clause-covers c =
