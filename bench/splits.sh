@@ -1,0 +1,14 @@
+#!/bin/sh
+# Times a search that spends its whole budget of 100,000 splits, and prints the splits a second. Asserts nothing.
+set -eu
+cd "$(dirname "$0")/.."
+session() {
+    printf 'green 1\nexecutor\nquery\n'
+    printf 'var x -2147483648 2147483647\nvar y -2147483648 2147483647\n'
+    printf 'x - y <= -1\ny - x <= -1\nend\n'
+}
+printf 'green 1\nend\n' | ./green solve > /dev/null
+before=$(date +%s.%N)
+session | ./green solve --budget 100000 || true
+after=$(date +%s.%N)
+echo "$before $after" | awk '{ printf "100000 splits in %.2f seconds: %d a second\n", $2 - $1, 100000 / ($2 - $1) }'
