@@ -6,7 +6,7 @@ use std::process::Abort;
 use std::test::Fail;
 
 /// A session with one model.
-pub const SESSION: &str = "green 1\nexecutor\nquery\nvar x 3 3\nend\n";
+pub const SESSION: &str = "green 1\nexecutor\nquery\nvar x 0 10\n2*x <= 7\nx >= 3\nend\n";
 
 /// The answers to it.
 pub const ANSWERS: &str = "green answers 1\nexecutor\nsat x=3 [new 0]\nend\n";
@@ -58,4 +58,38 @@ pub fn expect<S: Source>(
     let (status, _) = run(alloc, words, source, &mut sink)?;
     assert_eq!(rt; (status, str::from_utf8(sink.bytes())?), want);
     Ok(())
+}
+
+/// Runs the words over this text, and expects this status and this text in the sink.
+pub fn expect_text(
+    rt: &(impl Abort + AllocGlobal),
+    words: &[&str],
+    text: &str,
+    want: (u8, &str),
+) -> Result<(), Fail> {
+    let mut source = source_of(rt.alloc(), text, &[])?;
+    expect(rt, words, &mut source, &[], want)
+}
+
+/// Runs the words over the session of one query with these lines, and expects this status and this line as its answer.
+pub fn expect_query(
+    rt: &(impl Abort + AllocGlobal),
+    words: &[&str],
+    lines: &str,
+    want: (u8, &str),
+) -> Result<(), Fail> {
+    let (status, answer) = want;
+    let text = session_of(rt.alloc(), lines)?;
+    let answers = answers_of(rt.alloc(), answer)?;
+    expect_text(rt, words, text.as_str(), (status, answers.as_str()))
+}
+
+/// The session of one query with these lines.
+pub fn session_of(alloc: Global, lines: &str) -> Result<String, AllocError> {
+    format!(in alloc; "green 1\nexecutor\nquery\n{lines}end\n")
+}
+
+/// The answers text with this line alone.
+fn answers_of(alloc: Global, line: &str) -> Result<String, AllocError> {
+    format!(in alloc; "green answers 1\nexecutor\n{line}\nend\n")
 }

@@ -1,14 +1,18 @@
-//! Tests of the program's parts together: worked sessions from bytes to bytes, devices that fail, and calls with ample
-//! memory.
+//! Tests of the program's parts together: worked sessions from bytes to bytes, texts that are refused, devices that
+//! fail, and calls with ample memory.
 #![tactic(auto)]
 
+#[cfg(test)]
+mod devices;
+#[cfg(test)]
+mod faults;
 #[cfg(test)]
 mod fixtures;
 #[cfg(test)]
 mod memory;
 #[cfg(test)]
-mod sessions;
+mod queries;
 #[cfg(test)]
-mod small_queries;
+mod sessions;
 #[cfg(test)]
 mod sources;

@@ -4,7 +4,7 @@ ghost use Rattle.std.specs.Prelude.{◌≤◌, ◌^◌, unsigned_abs};
 use crate::fixtures::{ANSWERS, SESSION, source_of, words_of};
 use green_cli::{Command, Outcome, read_words, run_once};
 use lin_model::{Atom, Cmp, Condition, Expr, Name, Term, Var, fits, is_name};
-use lin_text::{push_integer, push_number, push_str, read_small, write_query};
+use lin_text::{push_integer, push_number, push_str, read_query, write_query};
 use outside::{MemSink, NoDisk};
 use std::alloc::{AllocError, Global};
 use std::process::Abort;
@@ -14,7 +14,7 @@ use std::test::Fail;
 fn words_are_read_and_done(rt: HostRuntime) -> Result<(), Fail> {
     let alloc = rt.alloc();
     let words = words_of(alloc, &["solve"])?;
-    let command = read_words(words.as_slice()).map_err(|_| "refused")?;
+    let command = read_words(alloc, words.as_slice()).map_err(|_| "refused")?;
     let Command::Solve { budget } = command;
     assert_eq!(rt; budget.splits(), 4_096);
     let mut sink = MemSink::new(alloc, Vec::new(alloc));
@@ -34,10 +34,12 @@ fn words_are_read_and_done(rt: HostRuntime) -> Result<(), Fail> {
 #[test]
 fn texts_are_read_and_written(rt: HostRuntime) -> Result<(), Fail> {
     let alloc = rt.alloc();
-    let query = read_small(alloc, SESSION.as_bytes())?.ok_or("not read")?;
+    let text = b"var x 03 3\n0 <= x\n";
+    let (query, end) = read_query(alloc, text, 0, false).map_err(|_| "refused")?;
+    assert_eq!(rt; end, text.len());
     assert_eq!(rt;
         write_query(alloc, &query)?.as_slice(),
-        b"var x 3 3\n".as_slice()
+        b"var x 3 3\n0 <= x\n".as_slice()
     );
     let mut out = write_query(alloc, &example(&rt)?)?;
     push_str(&mut out, "x ")?;
