@@ -1,8 +1,11 @@
 -- Reading a source piece by piece.
-use Rattle.std.proofs.Common.{◌≡◌, ℕ, List, [], ◌++◌, take, drop, Option, Some, None, refl, sym, ap, ◌∙◌, append_assoc, subst}
+use Rattle.std.proofs.Common.{◌≡◌, ℕ, List, [], ◌++◌, take, drop, Option, Some, None, refl, sym, ap, ◌∙◌, append_assoc, subst, ◌+◌, ◌≤◌, length, length-append, arith}
 use Rattle.std.proofs.lemmas.List.{take-append-drop}
 use Rattle.outside.specs.Bytes.{Gives}
-use Rattle.green_cli.specs.Input.{Consumes}
+use Rattle.green_cli.specs.Input.{Consumes, TakesAtMost, max_input}
+use Rattle.green_cli.specs.Statuses.{HasReason, IsReadingFault}
+use Rattle.green_cli.specs.declared.fault.Fault.{Fault}
+use Rattle.green_cli.specs.declared.fault.Fault.TheVariants.{Usage, Text, Read, Memory, TooLong}
 
 -- nothing was taken yet
 pub Consumes-none : (left : Option (List ℕ)) → Consumes left left []
@@ -31,3 +34,22 @@ Consumes-append (Some all) (Some more) new xs ys first second =
 pub Consumes_more : (old mid new : Option (List ℕ)) (xs ys : List ℕ) → Consumes old mid xs → (piece : List ℕ) × Consumes mid new piece × (ys ≡ xs ++ piece) → Consumes old new ys
 Consumes_more old mid new xs ys first more =
     subst (λ (bytes : List ℕ). Consumes old new bytes) (sym more.2) (Consumes-append old mid new xs more.0 first more.1)
+
+-- what was taken first, and not too much behind it
+pub takes_more : (old mid new : Option (List ℕ)) (xs : List ℕ) (n most : ℕ) → Consumes old mid xs → TakesAtMost n mid new → length xs + n ≤ most → TakesAtMost most old new
+takes_more old mid new xs n most first more le = record {
+  bytes = xs ++ more.bytes;
+  taken = Consumes-append old mid new xs more.bytes first more.taken;
+  few = omega (arith, le, more.few, length-append xs more.bytes);
+}
+
+-- a read that failed took nothing
+pub read_failed : (fault : Fault) (old mid new : Option (List ℕ)) (xs : List ℕ) (before between after : ℕ) → Consumes old mid xs → length xs ≤ max_input → before ≤ between → IsReadingFault fault mid new between after → HasReason ⊥ fault old new before after
+read_failed Usage old mid new xs before between after taken short later h = h
+read_failed (Text told) old mid new xs before between after taken short later h = absurd h
+read_failed Read old mid new xs before between after taken short later h = record {
+  rose = omega (arith, later, h.0);
+  short = record { bytes = xs; taken = subst (λ (left : Option (List ℕ)). Consumes old left xs) (sym h.1) taken; few = short };
+}
+read_failed Memory old mid new xs before between after taken short later h = tt
+read_failed TooLong old mid new xs before between after taken short later h = absurd h

@@ -1,5 +1,6 @@
 -- What was read of a source that tells its bytes. Of one that tells none, nothing is said.
 use Rattle.std.specs.Prelude.{◌≡◌, ◌≢◌, ℕ, ◌+◌, ◌≤◌, List, [], ◌++◌, length, Option, Some, None, IfSome}
+use Rattle.outside.specs.Counts.{Rose}
 use Rattle.lin_model.specs.Conditions.{PlainCondition}
 use Rattle.lin_text.specs.declared.fault.SessionFault.{SessionFault}
 use Rattle.lin_text.specs.declared.fault.SessionKind.TheVariants.{NoMemory}
@@ -14,6 +15,17 @@ max_input = 16777216
 abbrev pub Consumes : Option (List ℕ) → Option (List ℕ) → List ℕ → Type 0
 Consumes None new bytes = new ≡ None
 Consumes (Some all) new bytes = (rest : List ℕ) × (all ≡ bytes ++ rest) × (new ≡ Some rest)
+
+-- no more than n bytes were taken
+pub record TakesAtMost (n : ℕ) (old new : Option (List ℕ)) : Type 0 where
+  pub bytes : List ℕ
+  pub taken : Consumes old new bytes
+  pub few : length bytes ≤ n
+
+-- a read failed before the source gave too many bytes
+pub record ReadFailed (old new : Option (List ℕ)) (before after : ℕ) : Type 0 where
+  pub rose : Rose before after
+  pub short : TakesAtMost max_input old new
 
 -- all that was left was taken, and it is these bytes, not too many
 pub record WasRead (old new : Option (List ℕ)) (bytes : List ℕ) : Type 0 where

@@ -2,7 +2,7 @@
 use Rattle.std.specs.Prelude.{◌≡◌, ◌⊎◌, ℕ, List, Option}
 use Rattle.outside.specs.Bytes.{Appends, AppendsFront}
 use Rattle.outside.specs.Counts.{Rose}
-use Rattle.green_cli.specs.Input.{InputIsFaulty, InputIsTooLong}
+use Rattle.green_cli.specs.Input.{InputIsFaulty, InputIsTooLong, ReadFailed}
 use Rattle.green_cli.specs.Lines.{line_of}
 use Rattle.green_cli.specs.Solve.{IsEmpty}
 use Rattle.green_cli.specs.declared.fault.Fault.{Fault}
@@ -29,17 +29,17 @@ IsAnswered status = IsWritten status ⊎ (status ≡ 13)
 abbrev pub HasReason : Type 0 → Fault → Option (List ℕ) → Option (List ℕ) → ℕ → ℕ → Type 0
 HasReason wrong Usage old new before after = wrong
 HasReason wrong (Text told) old new before after = InputIsFaulty old new told
-HasReason wrong Read old new before after = Rose before after
+HasReason wrong Read old new before after = ReadFailed old new before after
 HasReason wrong Memory old new before after = Unit {0}
 HasReason wrong TooLong old new before after = InputIsTooLong old new
 
--- a read failed, or memory ran out
-abbrev pub IsReadingFault : Fault → ℕ → ℕ → Type 0
-IsReadingFault Usage before after = ⊥
-IsReadingFault (Text told) before after = ⊥
-IsReadingFault Read before after = Rose before after
-IsReadingFault Memory before after = Unit {0}
-IsReadingFault TooLong before after = ⊥
+-- a read failed and took nothing, or memory ran out
+abbrev pub IsReadingFault : Fault → Option (List ℕ) → Option (List ℕ) → ℕ → ℕ → Type 0
+IsReadingFault Usage old new before after = ⊥
+IsReadingFault (Text told) old new before after = ⊥
+IsReadingFault Read old new before after = Rose before after × (new ≡ old)
+IsReadingFault Memory old new before after = Unit {0}
+IsReadingFault TooLong old new before after = ⊥
 
 -- the sink took a front of the text, and less than all of it only where its count of faults rose
 pub record Writes (text : List ℕ) (old new : Option (List ℕ)) (before after : ℕ) : Type 0 where

@@ -41,7 +41,7 @@ impl From<SessionFault> for Fault {
     ghost use Rattle.lin_text.specs.declared.fault.SessionKind.TheVariants.{NoMemory};
     ghost use Rattle.green_cli.specs.declared.fault.Fault.TheVariants.{Memory, Text};
 
-    ghost from_gives = { λ told fault. (fault ≡ Memory) ⊎ ((fault ≡ Text told) × (told.kind ≢ NoMemory)) };
+    ghost from_gives = { λ told fault. ((fault ≡ Memory) × (told.kind ≡ NoMemory)) ⊎ ((fault ≡ Text told) × (told.kind ≢ NoMemory)) };
 
     fn from(told: SessionFault) -> Fault {
         match told.kind {

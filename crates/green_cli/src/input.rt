@@ -2,7 +2,7 @@
 ghost use Rattle.std.specs.Prelude.{◌≡◌, ◌+◌, ◌++◌, ◌≤◌, ◌<◌, ℕ, List, take, length, IfOk, IfErr, MatchResult};
 ghost use Rattle.outside.specs.Bytes.{IsAtEnd};
 ghost use Rattle.outside.specs.Counts.{Rose};
-ghost use Rattle.green_cli.specs.Input.{Consumes, WasRead};
+ghost use Rattle.green_cli.specs.Input.{Consumes, TakesAtMost, WasRead, max_input};
 ghost use Rattle.green_cli.specs.Statuses.{HasReason, IsReadingFault};
 
 use crate::fault::Fault;
@@ -17,9 +17,10 @@ const PIECE: usize = 65_536;
 
 /// All that the source has left, in at most one turn a byte.
 pub fn read_input<S: Source>(alloc: Global, source: &mut S) -> Result<Vec<u8>, Fault>
-    ensures { MatchResult result
+    ensures read { MatchResult result
         (λ bytes. WasRead (S.left source.old) (S.left source.new) bytes.items)
         (λ fault. HasReason ⊥ fault (S.left source.old) (S.left source.new) (S.faults source.old) (S.faults source.new)) }
+    ensures bounded { TakesAtMost (max_input + 1) (S.left source.old) (S.left source.new) }
 {
     let mut bytes = Vec::new(alloc);
     let mut buffer = [0; PIECE];
@@ -45,7 +46,8 @@ fn read_piece<S: Source>(
     ensures len { IfOk result (λ n. length bytes.new.items ≡ length bytes.old.items + n) }
     ensures taken { IfOk result (λ n. (piece : List ℕ) × Consumes (S.left source.old) (S.left source.new) piece × (bytes.new.items ≡ bytes.old.items ++ piece)) }
     ensures end { IfOk result (λ n. n ≡ 0 → 0 < length buffer.old → IsAtEnd (S.left source.old)) }
-    ensures reason { IfErr result (λ fault. IsReadingFault fault (S.faults source.old) (S.faults source.new)) }
+    ensures reason { IfErr result (λ fault. IsReadingFault fault (S.left source.old) (S.left source.new) (S.faults source.old) (S.faults source.new)) }
+    ensures bounded { TakesAtMost (length buffer.old) (S.left source.old) (S.left source.new) }
     ensures later { S.faults source.old ≤ S.faults source.new }
 {
     match source.read(buffer) {

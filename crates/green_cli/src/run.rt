@@ -1,9 +1,10 @@
 //! The top call.
-ghost use Rattle.std.specs.Prelude.{◌≡◌, ◌⊎◌, ◌≢◌, map};
+ghost use Rattle.std.specs.Prelude.{◌≡◌, ◌+◌, ◌⊎◌, ◌≢◌, map};
 ghost use Rattle.std.specs.String.{string_bytes};
 ghost use Rattle.outside.specs.Bytes.{Appends};
 ghost use Rattle.outside.specs.Counts.{Rose};
 ghost use Rattle.green_cli.specs.AnswersText.{answers_text};
+ghost use Rattle.green_cli.specs.Input.{TakesAtMost, max_input};
 ghost use Rattle.green_cli.specs.Solve.{HasUnknown, IsEmpty, Solves, SolvesAsAsked, budget_of};
 ghost use Rattle.green_cli.specs.Statuses.{IsAnswered, IsRefused, IsToldAs, IsWritten, Tells, Writes};
 ghost use Rattle.green_cli.specs.Words.{AreCommand};
@@ -51,6 +52,7 @@ pub fn green<S: Source, K: Sink, D: Disk + Send, G: Gate + Sync>(
         (S.left source.old) (S.left source.new) (S.faults source.old) (S.faults source.new)
         (K.taken sink.old) (K.taken sink.new) (K.faults sink.old) (K.faults sink.new) result.report }
 
+    ensures bounded { TakesAtMost (max_input + 1) (S.left source.old) (S.left source.new) }
     ensures disk { result.disk ≡ disk }
     ensures other { result.other ≡ other }
 {
@@ -95,6 +97,7 @@ pub fn run_once<S: Source, K: Sink, D: Disk>(
         (S.left source.old) (S.left source.new) (S.faults source.old) (S.faults source.new)
         (K.taken sink.old) (K.taken sink.new) (K.faults sink.old) (K.faults sink.new) result.report }
 
+    ensures bounded { TakesAtMost (max_input + 1) (S.left source.old) (S.left source.new) }
     ensures disk { result.disk ≡ disk }
     ensures other { result.other ≡ other }
 {

@@ -1,6 +1,7 @@
 //! Answering the session of a source.
-ghost use Rattle.std.specs.Prelude.{◌≡◌, ◌↔◌, IsTrue, MatchResult, Any};
+ghost use Rattle.std.specs.Prelude.{◌≡◌, ◌+◌, ◌↔◌, IsTrue, MatchResult, Any};
 ghost use Rattle.green_cli.specs.AnswersText.{answers_text};
+ghost use Rattle.green_cli.specs.Input.{TakesAtMost, max_input};
 ghost use Rattle.green_cli.specs.Solve.{HasUnknown, IsUnknown, Solves};
 ghost use Rattle.green_cli.specs.Statuses.{HasReason};
 
@@ -24,10 +25,11 @@ pub struct Solved {
 
 /// Reads a session from the source, answers it, and spells the answers.
 pub fn solve<S: Source>(alloc: Global, budget: Budget, source: &mut S) -> Result<Solved, Fault>
-    ensures { MatchResult result
+    ensures solved { MatchResult result
         (λ solved. Solves budget (S.left source.old) (S.left source.new) solved.report
         × (solved.text.items ≡ answers_text solved.report.session solved.report.answers))
         (λ fault. HasReason ⊥ fault (S.left source.old) (S.left source.new) (S.faults source.old) (S.faults source.new)) }
+    ensures bounded { TakesAtMost (max_input + 1) (S.left source.old) (S.left source.new) }
 {
     let bytes = read_input(alloc, source)?;
     let session = read_session(alloc, bytes.as_slice())?;

@@ -83,11 +83,12 @@ impl From<AllocError> for WordsFault {
 }
 
 impl From<clap::Error> for WordsFault {
+    ghost use Rattle.std.specs.Prelude.{◌≡◌, ◌≢◌, ◌⊎◌};
     ghost use Rattle.clap.specs.Words.{kind_of};
     ghost use Rattle.clap.specs.declared.error.kind.ErrorKind.TheVariants.{OutOfMemory};
-    ghost use Rattle.green_cli.specs.declared.words.WordsFault.TheVariants.{Usage};
+    ghost use Rattle.green_cli.specs.declared.words.WordsFault.TheVariants.{NoMemory, Usage};
 
-    ghost from_gives = { λ error fault. fault ≡ Usage → kind_of error ≢ OutOfMemory };
+    ghost from_gives = { λ error fault. ((fault ≡ NoMemory) × (kind_of error ≡ OutOfMemory)) ⊎ ((fault ≡ Usage) × (kind_of error ≢ OutOfMemory)) };
 
     fn from(error: clap::Error) -> WordsFault {
         if error.kind() == ErrorKind::OutOfMemory {

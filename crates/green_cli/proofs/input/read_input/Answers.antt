@@ -1,6 +1,6 @@
-use Rattle.std.proofs.Common.{ℕ, List, subst, sym, arith, length-take}
+use Rattle.std.proofs.Common.{ℕ, List, subst, sym, arith, length-take, rules}
 use Rattle.green_cli.specs.Input.{Consumes}
-use Rattle.green_cli.proofs.InputLemmas.{Consumes-none, Consumes_more}
+use Rattle.green_cli.proofs.InputLemmas.{Consumes-none, Consumes_more, takes_more, read_failed}
 use Rattle.green_cli.proofs.input.read_input.Goals as goal
 
 pub loop-turn-init : goal.loop-turn-init
@@ -13,8 +13,31 @@ loop-turn-init g c =
       later = omega arith;
     }
 
-pub returns-then-len-gt-MAX_INPUT : goal.returns-then-len-gt-MAX_INPUT
-returns-then-len-gt-MAX_INPUT g c =
+pub returns-in_err-read_piece-clause-read : goal.returns-in_err-read_piece-clause-read
+returns-in_err-read_piece-clause-read g c =
+    let reason = read_failed c.in_err-read_piece.field-0.0 (g.S.Source.left c.args.source.now) (g.S.Source.left c.loop-turn.source) (g.S.Source.left c.read_piece.new.source) c.loop-turn.bytes.items (g.S.Source.faults c.args.source.now) (g.S.Source.faults c.loop-turn.source) (g.S.Source.faults c.read_piece.new.source) c.loop-turn.invariant.taken c.loop-turn.invariant.short c.loop-turn.invariant.later (c.in_err-read_piece.ensures {u = tt}).reason in
+    search rules
+
+pub returns-in_err-read_piece-clause-bounded : goal.returns-in_err-read_piece-clause-bounded
+returns-in_err-read_piece-clause-bounded g c =
+    takes_more (g.S.Source.left c.args.source.now) (g.S.Source.left c.loop-turn.source) (g.S.Source.left c.read_piece.new.source) c.loop-turn.bytes.items _ _ c.loop-turn.invariant.taken c.read_piece.ensures.bounded (omega (arith, c.loop-turn.invariant.short, length-take c.min-room.result c.loop-turn.buffer))
+
+pub returns-then-branch-eq0-clause-bounded : goal.returns-then-branch-eq0-clause-bounded
+returns-then-branch-eq0-clause-bounded g c = record {
+  bytes = c.read_piece.new.bytes.items;
+  taken = Consumes_more (g.S.Source.left c.args.source.now) (g.S.Source.left c.loop-turn.source) (g.S.Source.left c.read_piece.new.source) c.loop-turn.bytes.items c.read_piece.new.bytes.items c.loop-turn.invariant.taken c.in_ok-read_piece.ensures.taken;
+  few = omega (arith, c.in_ok-read_piece.ensures.len, c.if-branch-eq0.true, c.loop-turn.invariant.short);
+}
+
+pub returns-then-len-gt-MAX_INPUT-clause-bounded : goal.returns-then-len-gt-MAX_INPUT-clause-bounded
+returns-then-len-gt-MAX_INPUT-clause-bounded g c = record {
+  bytes = c.read_piece.new.bytes.items;
+  taken = Consumes_more (g.S.Source.left c.args.source.now) (g.S.Source.left c.loop-turn.source) (g.S.Source.left c.read_piece.new.source) c.loop-turn.bytes.items c.read_piece.new.bytes.items c.loop-turn.invariant.taken c.in_ok-read_piece.ensures.taken;
+  few = omega (arith, c.in_ok-read_piece.ensures.len, c.in_ok-read_piece.ensures.count, length-take c.min-room.result c.loop-turn.buffer, c.loop-turn.invariant.short);
+}
+
+pub returns-then-len-gt-MAX_INPUT-clause-read : goal.returns-then-len-gt-MAX_INPUT-clause-read
+returns-then-len-gt-MAX_INPUT-clause-read g c =
     record {
       bytes = c.read_piece.new.bytes.items;
       given = Consumes_more (g.S.Source.left c.args.source.now) (g.S.Source.left c.loop-turn.source) (g.S.Source.left c.read_piece.new.source) c.loop-turn.bytes.items c.read_piece.new.bytes.items c.loop-turn.invariant.taken c.in_ok-read_piece.ensures.taken;
