@@ -1,33 +1,41 @@
 //! Writing: the plain spelling of a condition.
-ghost use Rattle.std.specs.Prelude.{◌≡◌, ◌++◌, IfOk, OnOk, flat_map};
+ghost use Rattle.std.specs.Prelude.{◌≡◌, ◌++◌, false, length, All, IfOk, OnOk, flat_map};
+ghost use Rattle.lin_model.specs.Terms.{VarFits, TermFits, ExprFits};
+ghost use Rattle.lin_model.specs.Conditions.{IsCondition, AtomFits};
+ghost use Rattle.lin_text.specs.Queries.{Spells};
 ghost use Rattle.lin_text.specs.Spelling.{condition_text, line, var_text, atom_text, side_text, first_term, later_term, joint_of, size_text, factor_text, name_of, cmp_text, bounds_text};
 
+use crate::laws::written_is_spelled;
 use crate::push::{minus, push_integer, push_number, push_str};
 use lin_model::{Atom, Cmp, Condition, Expr, Term, Var};
 use outside::NoMemory;
 use std::alloc::Global;
 
 /// The plain spelling of a condition: each declaration `var NAME LO HI`, and then each comparison
-/// `LEFT CMP RIGHT`, in order, each on a line of its own that a line feed ends.
+/// `LEFT CMP RIGHT`, in order, each on a line of its own that a line feed ends. The text spells the condition.
 pub fn write_query(alloc: Global, c: &Condition) -> Result<Vec<u8>, NoMemory>
-    ensures { IfOk result (λ text. text.items ≡ condition_text c.now) }
+    ensures text { IfOk result (λ text. text.items ≡ condition_text c.now) }
+    ensures read_back { IfOk result (λ text. Spells false text.items 0 c.now (length text.items)) }
 {
     let mut out = Vec::new(alloc);
     push_query(&mut out, c)?;
+    written_is_spelled();
     Ok(out)
 }
 
-/// Adds the plain spelling of a condition at the end.
+/// Adds the plain spelling of a condition at the end, and tells that the condition keeps its limits.
 #[tactic(auto, unfolding(crate::specs::Spelling::condition_text))]
 pub fn push_query(out: &mut Vec<u8>, c: &Condition) -> Result<(), NoMemory>
-    ensures { OnOk result (out.new.items ≡ out.old.items ++ condition_text c.now) }
+    ensures text { OnOk result (out.new.items ≡ out.old.items ++ condition_text c.now) }
+    ensures fits { OnOk result (IsCondition c.now) }
 {
     push_vars(out, c.vars())?;
     push_atoms(out, c.vars(), c.atoms())
 }
 
 fn push_vars(out: &mut Vec<u8>, vars: &[Var]) -> Result<(), NoMemory>
-    ensures { OnOk result (out.new.items ≡ out.old.items ++ flat_map (λ var. line (var_text var)) vars.now) }
+    ensures text { OnOk result (out.new.items ≡ out.old.items ++ flat_map (λ var. line (var_text var)) vars.now) }
+    ensures fits { OnOk result (All VarFits vars.now) }
 {
     for var in vars {
         push_var(out, var)?;
@@ -38,7 +46,8 @@ fn push_vars(out: &mut Vec<u8>, vars: &[Var]) -> Result<(), NoMemory>
 
 #[tactic(auto, unfolding(crate::specs::Spelling::var_text))]
 fn push_var(out: &mut Vec<u8>, var: &Var) -> Result<(), NoMemory>
-    ensures { OnOk result (out.new.items ≡ out.old.items ++ var_text var.now) }
+    ensures text { OnOk result (out.new.items ≡ out.old.items ++ var_text var.now) }
+    ensures fits { OnOk result (VarFits var.now) }
 {
     push_str(out, "var ")?;
     out.extend_from_slice(var.name().as_bytes())?;
@@ -56,7 +65,8 @@ fn push_bounds(out: &mut Vec<u8>, lo: i64, hi: i64) -> Result<(), NoMemory>
 }
 
 fn push_atoms(out: &mut Vec<u8>, vars: &[Var], atoms: &[Atom]) -> Result<(), NoMemory>
-    ensures { OnOk result (out.new.items ≡ out.old.items ++ flat_map (λ atom. line (atom_text vars.now atom)) atoms.now) }
+    ensures text { OnOk result (out.new.items ≡ out.old.items ++ flat_map (λ atom. line (atom_text vars.now atom)) atoms.now) }
+    ensures fits { OnOk result (All AtomFits atoms.now) }
 {
     for atom in atoms {
         push_atom(out, vars, atom)?;
@@ -67,7 +77,8 @@ fn push_atoms(out: &mut Vec<u8>, vars: &[Var], atoms: &[Atom]) -> Result<(), NoM
 
 #[tactic(auto, unfolding(crate::specs::Spelling::atom_text))]
 fn push_atom(out: &mut Vec<u8>, vars: &[Var], atom: &Atom) -> Result<(), NoMemory>
-    ensures { OnOk result (out.new.items ≡ out.old.items ++ atom_text vars.now atom.now) }
+    ensures text { OnOk result (out.new.items ≡ out.old.items ++ atom_text vars.now atom.now) }
+    ensures fits { OnOk result (AtomFits atom.now) }
 {
     push_side(out, vars, &atom.left)?;
     push_str(out, " ")?;
@@ -92,7 +103,9 @@ fn cmp_sign(cmp: Cmp) -> &'static str
 
 #[tactic(auto, unfolding(crate::specs::Spelling::side_text))]
 fn push_side(out: &mut Vec<u8>, vars: &[Var], side: &Expr) -> Result<(), NoMemory>
-    ensures { OnOk result (out.new.items ≡ out.old.items ++ side_text vars.now side.now) }
+    ensures text { OnOk result (out.new.items ≡ out.old.items ++ side_text vars.now side.now) }
+    ensures fits { OnOk result (ExprFits side.now) }
+    ensures terms { OnOk result (All TermFits side.now) }
 {
     match side.terms() {
         [] => Ok(()),
@@ -105,14 +118,16 @@ fn push_side(out: &mut Vec<u8>, vars: &[Var], side: &Expr) -> Result<(), NoMemor
 
 #[tactic(auto, unfolding(crate::specs::Spelling::first_term))]
 fn push_first_term(out: &mut Vec<u8>, vars: &[Var], term: &Term) -> Result<(), NoMemory>
-    ensures { OnOk result (out.new.items ≡ out.old.items ++ first_term vars.now term.now) }
+    ensures text { OnOk result (out.new.items ≡ out.old.items ++ first_term vars.now term.now) }
+    ensures fits { OnOk result (TermFits term.now) }
 {
     push_str(out, minus(term.factor()))?;
     push_size(out, vars, term.factor().unsigned_abs(), term.var())
 }
 
 fn push_later_terms(out: &mut Vec<u8>, vars: &[Var], terms: &[Term]) -> Result<(), NoMemory>
-    ensures { OnOk result (out.new.items ≡ out.old.items ++ flat_map (later_term vars.now) terms.now) }
+    ensures text { OnOk result (out.new.items ≡ out.old.items ++ flat_map (later_term vars.now) terms.now) }
+    ensures fits { OnOk result (All TermFits terms.now) }
 {
     for term in terms {
         push_later_term(out, vars, term)?;
@@ -122,7 +137,8 @@ fn push_later_terms(out: &mut Vec<u8>, vars: &[Var], terms: &[Term]) -> Result<(
 
 #[tactic(auto, unfolding(crate::specs::Spelling::later_term))]
 fn push_later_term(out: &mut Vec<u8>, vars: &[Var], term: &Term) -> Result<(), NoMemory>
-    ensures { OnOk result (out.new.items ≡ out.old.items ++ later_term vars.now term.now) }
+    ensures text { OnOk result (out.new.items ≡ out.old.items ++ later_term vars.now term.now) }
+    ensures fits { OnOk result (TermFits term.now) }
 {
     push_str(out, joint(term.factor()))?;
     push_size(out, vars, term.factor().unsigned_abs(), term.var())
