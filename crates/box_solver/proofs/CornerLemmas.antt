@@ -2,14 +2,13 @@
 use Rattle.std.proofs.Common.{◌≡◌, ℕ, zero, suc, ◌<◌, ◌≤◌, ℤ, pos, negsuc, ◌*ℤ◌, ◌≤ℤ◌, ◌<ℤ◌, Bool, true, false, not, ◌&&◌, Option, Some, None, is_some, IsTrue, List, [], ◌∷◌, length, get_or, slice_get, refl, ap, sym, ◌∙◌, arith, int_lt}
 use Rattle.std.specs.Option.{option_map_or, unwrap_or}
 use Rattle.std.specs.Ordering.{int_eq}
-use Rattle.std.specs.List.{All}
 use Rattle.std.proofs.lemmas.Cmp.{int_eq_equiv}
 use Rattle.std.proofs.lemmas.Int.{ints, by_lt_z}
 use Rattle.std.proofs.lemmas.List.FromFn.{get_or-map-range_with_len, length-map-range_with_len}
 use Rattle.lin_model.specs.declared.form.FormTerm.{FormTerm}
 use Rattle.lin_model.specs.Form.{value_at, form_value, form_width}
-use Rattle.lin_model.specs.KeyAtom.{PlainKeyAtom, IsCanonical}
-use Rattle.lin_model.specs.Key.{KeyHolds, key_width, IsKey}
+use Rattle.lin_model.specs.KeyAtom.{PlainKeyAtom}
+use Rattle.lin_model.specs.Key.{KeyHolds, key_width}
 use Rattle.lin_model.specs.Test.{passes}
 use Rattle.refutation.specs.Bounds.{PlainBounds, lower_of, upper_of, crosses, add_known, scaled_side, least, greatest}
 use Rattle.refutation.specs.Box.{PlainBox}
@@ -18,20 +17,7 @@ use Rattle.refutation.specs.SearchOrder.{lowest_corner, lower_or_zero, upper_or_
 use Rattle.box_solver.specs.Halving.{IsWidest}
 use Rattle.box_solver.specs.OneAtom.{NoFixedCloses}
 use Rattle.box_solver.specs.Progress.{IsSearchBox}
-use Rattle.box_solver.proofs.HalvesLemmas.{not_crossed}
-
--- ---- the width of a key
-
-form-width : (form : List FormTerm) → All (λ t. t.var < 64) form → form_width form ≤ 64
-form-width [] h = omega arith
-form-width (t ∷ ts) h = omega (arith, h 0 t (omega arith), form-width ts (λ k d lt. h (suc k) d (omega arith)))
-
-keys-width : (atoms : List PlainKeyAtom) → All IsCanonical atoms → key_width atoms ≤ 64
-keys-width [] h = omega arith
-keys-width (a ∷ atoms) h = omega (arith, form-width a.form (h 0 a (omega arith)).form.variables.in_range, keys-width atoms (λ k d lt. h (suc k) d (omega arith)))
-
-pub key-narrow : (key : List PlainKeyAtom) → IsKey key → key_width key ≤ 64
-key-narrow key h = keys-width key h.canonical
+use Rattle.refutation.proofs.SplitLemmas.{not_crossed}
 
 -- ---- one value for each variable
 

@@ -1,83 +1,14 @@
--- The halves of a box: neither is empty, and they share the box's points.
-use Rattle.std.proofs.Common.{◌≡◌, ◌≢◌, ℕ, zero, suc, ◌+◌, ◌*◌, ◌^◌, ◌<◌, ◌≤◌, ℤ, pos, ◌+ℤ◌, ◌-ℤ◌, ◌≤ℤ◌, ◌<ℤ◌, Bool, true, false, cond, Option, Some, None, IfSome, is_some, List, length, get_or, unsigned_abs, ⊎_elim, refl, ap, sym, ◌∙◌, subst, arith, int_lt}
-use Rattle.std.specs.Int.{int_min, int_max}
-use Rattle.std.specs.List.{range_with_len}
-use Rattle.std.proofs.lemmas.Bool.{cases_lt}
-use Rattle.std.proofs.lemmas.Int.{ints, clamps}
-use Rattle.std.proofs.lemmas.List.{get_or-set_same, get_or-set_other, get_or_past}
+-- The halves of a box of the search are boxes of the search, and share its points.
+use Rattle.std.proofs.Common.{◌≡◌, ℕ, ◌+◌, ◌^◌, ◌<◌, ◌≤◌, ℤ, pos, ◌+ℤ◌, false, Option, Some, IfSome, List, unsigned_abs, subst, arith}
+use Rattle.std.proofs.lemmas.Int.{ints}
 use Rattle.lin_model.specs.KeyAtom.{PlainKeyAtom}
 use Rattle.lin_model.specs.Key.{key_width}
-use Rattle.refutation.specs.Bounds.{PlainBounds, lower_of, upper_of, with_lower, with_upper, crosses, is_empty, tighter_lower, tighter_upper}
+use Rattle.refutation.specs.Bounds.{PlainBounds, lower_of, upper_of, is_empty}
 use Rattle.refutation.specs.Box.{PlainBox, left_half, right_half}
 use Rattle.refutation.specs.Boxed.{HasShortSides}
-use Rattle.refutation.specs.SearchTree.{number_between, points_over, IsFairSplit}
-use Rattle.refutation.proofs.BoundsLemmas.{is_empty-true, is_empty-false}
+use Rattle.refutation.specs.SearchTree.{IsFairSplit}
+use Rattle.refutation.proofs.SplitLemmas.{IsCut, each_upper, each_lower, left-not_empty, right-not_empty, left-boxed, right-boxed, halves-points, points-some}
 use Rattle.box_solver.specs.Progress.{IsSearchBox, points_of}
-
--- ---- sides that are there
-
--- a cut between both sides of a variable, with room above it
-pub record IsCut (b : PlainBounds) (v : ℕ) (lo hi cut : ℤ) : Type 0 where
-  pub below : v < 64
-  pub lower : lower_of b v ≡ Some lo
-  pub upper : upper_of b v ≡ Some hi
-  pub from : lo ≤ℤ cut
-  pub to : cut <ℤ hi
-
-in_list : (xs : List (Option ℤ)) (v : ℕ) (n : ℤ) → get_or xs v None ≡ Some n → v < length xs
-in_list xs v n is = ⊎_elim (λ lt. lt) (λ le. let past = get_or_past xs v None le in absurd (cc)) (cases_lt v (length xs))
-
-by_same : {P : Type 0} (w v : ℕ) → (w ≡ v → P) → (w ≢ v → P) → P
-by_same w v f g = ⊎_elim (λ lt. g (λ e. omega arith)) (λ ge. ⊎_elim (λ lt. g (λ e. omega arith)) (λ le. f (omega arith)) (cases_lt v w)) (cases_lt w v)
-
-upper-cut : (b : PlainBounds) (v : ℕ) (lo hi cut : ℤ) → IsCut b v lo hi cut → upper_of (with_upper b v cut) v ≡ Some cut
-upper-cut b v lo hi cut h =
-    let same : int_min hi cut ≡ cut = omega (arith, ints, clamps, h.to) in
-    get_or-set_same b.upper v (tighter_upper (upper_of b v) (Some cut)) None (in_list b.upper v hi h.upper) ∙ ap (λ (o : Option ℤ). tighter_upper o (Some cut)) h.upper ∙ ap Some same
-
-upper-other : (b : PlainBounds) (v w : ℕ) (cut : ℤ) → w ≢ v → upper_of (with_upper b v cut) w ≡ upper_of b w
-upper-other b v w cut other = get_or-set_other b.upper v w (tighter_upper (upper_of b v) (Some cut)) None other
-
-lower-cut : (b : PlainBounds) (v : ℕ) (lo hi cut : ℤ) → IsCut b v lo hi cut → lower_of (with_lower b v (cut +ℤ pos 1)) v ≡ Some (cut +ℤ pos 1)
-lower-cut b v lo hi cut h =
-    let same : int_max lo (cut +ℤ pos 1) ≡ cut +ℤ pos 1 = omega (arith, ints, clamps, h.from) in
-    get_or-set_same b.lower v (tighter_lower (lower_of b v) (Some (cut +ℤ pos 1))) None (in_list b.lower v lo h.lower) ∙ ap (λ (o : Option ℤ). tighter_lower o (Some (cut +ℤ pos 1))) h.lower ∙ ap Some same
-
-lower-other : (b : PlainBounds) (v w : ℕ) (cut : ℤ) → w ≢ v → lower_of (with_lower b v (cut +ℤ pos 1)) w ≡ lower_of b w
-lower-other b v w cut other = get_or-set_other b.lower v w (tighter_lower (lower_of b v) (Some (cut +ℤ pos 1))) None other
-
--- what holds of the new side and of the old sides holds of all sides of a half
-each_upper : (b : PlainBounds) (v : ℕ) (lo hi cut : ℤ) (w : ℕ) (Q : Option ℤ → Type 0) → IsCut b v lo hi cut → (w ≡ v → Q (Some cut)) → Q (upper_of b w) → Q (upper_of (with_upper b v cut) w)
-each_upper b v lo hi cut w Q h f g =
-    by_same w v (λ same. subst (λ u. Q (upper_of (with_upper b v cut) u)) (sym same) (subst Q (sym (upper-cut b v lo hi cut h)) (f same))) (λ other. subst Q (sym (upper-other b v w cut other)) g)
-
-each_lower : (b : PlainBounds) (v : ℕ) (lo hi cut : ℤ) (w : ℕ) (Q : Option ℤ → Type 0) → IsCut b v lo hi cut → (w ≡ v → Q (Some (cut +ℤ pos 1))) → Q (lower_of b w) → Q (lower_of (with_lower b v (cut +ℤ pos 1)) w)
-each_lower b v lo hi cut w Q h f g =
-    by_same w v (λ same. subst (λ u. Q (lower_of (with_lower b v (cut +ℤ pos 1)) u)) (sym same) (subst Q (sym (lower-cut b v lo hi cut h)) (f same))) (λ other. subst Q (sym (lower-other b v w cut other)) g)
-
--- ---- emptiness
-
-pub not_crossed : (b : PlainBounds) (v : ℕ) → v < 64 → is_empty b ≡ false → crosses (lower_of b v) (upper_of b v) ≡ false
-not_crossed b v lt full = by_test (crosses (lower_of b v) (upper_of b v)) refl
-  where
-    by_test : (t : Bool) → crosses (lower_of b v) (upper_of b v) ≡ t → crosses (lower_of b v) (upper_of b v) ≡ false
-    by_test true is = let empty = is_empty-true b v lt is in absurd (cc)
-    by_test false is = is
-
-apart : (n m : ℤ) → m ≤ℤ n → int_lt n m ≡ false
-apart n m h = by_test (int_lt n m) refl
-  where
-    by_test : (t : Bool) → int_lt n m ≡ t → int_lt n m ≡ false
-    by_test true is = absurd (omega (arith, ints))
-    by_test false is = is
-
-pub left-not_empty : (b : PlainBounds) (v : ℕ) (lo hi cut : ℤ) → IsCut b v lo hi cut → is_empty b ≡ false → is_empty (with_upper b v cut) ≡ false
-left-not_empty b v lo hi cut h full =
-    is_empty-false (with_upper b v cut) (λ w lt. each_upper b v lo hi cut w (λ o. crosses (lower_of b w) o ≡ false) h (λ same. ap (λ (o : Option ℤ). crosses o (Some cut)) (ap (lower_of b) same ∙ h.lower) ∙ apart cut lo h.from) (not_crossed b w lt full))
-
-pub right-not_empty : (b : PlainBounds) (v : ℕ) (lo hi cut : ℤ) → IsCut b v lo hi cut → is_empty b ≡ false → is_empty (with_lower b v (cut +ℤ pos 1)) ≡ false
-right-not_empty b v lo hi cut h full =
-    is_empty-false (with_lower b v (cut +ℤ pos 1)) (λ w lt. each_lower b v lo hi cut w (λ o. crosses o (upper_of b w) ≡ false) h (λ same. ap (λ (o : Option ℤ). crosses (Some (cut +ℤ pos 1)) o) (ap (upper_of b) same ∙ h.upper) ∙ apart hi (cut +ℤ pos 1) (omega (arith, ints, h.to))) (not_crossed b w lt full))
 
 -- ---- both halves are boxes of the search
 
@@ -94,7 +25,7 @@ pub left-fits : (key : List PlainKeyAtom) (box : PlainBox) (v : ℕ) (lo hi cut 
 left-fits key box v lo hi cut h s = record {
   no_sides = s.no_sides;
   not_empty = left-not_empty box.bounds v lo hi cut h s.not_empty;
-  boxed = λ w lt. record { lower = (s.boxed w lt).lower; upper = each_upper box.bounds v lo hi cut w (λ o. is_some o ≡ true) h (λ _. refl) (s.boxed w lt).upper };
+  boxed = left-boxed key box.bounds v lo hi cut h s.boxed;
   short = record { lower = s.short.lower; upper = λ w. each_upper box.bounds v lo hi cut w (λ o. IfSome o (λ n. unsigned_abs n ≤ 2 ^ 32)) h (λ _. (cut-short box.bounds v lo hi cut h s.short).0) (s.short.upper w) };
 }
 
@@ -102,7 +33,7 @@ pub right-fits : (key : List PlainKeyAtom) (box : PlainBox) (v : ℕ) (lo hi cut
 right-fits key box v lo hi cut h s = record {
   no_sides = s.no_sides;
   not_empty = right-not_empty box.bounds v lo hi cut h s.not_empty;
-  boxed = λ w lt. record { lower = each_lower box.bounds v lo hi cut w (λ o. is_some o ≡ true) h (λ _. refl) (s.boxed w lt).lower; upper = (s.boxed w lt).upper };
+  boxed = right-boxed key box.bounds v lo hi cut h s.boxed;
   short = record { lower = λ w. each_lower box.bounds v lo hi cut w (λ o. IfSome o (λ n. unsigned_abs n ≤ 2 ^ 32)) h (λ _. (cut-short box.bounds v lo hi cut h s.short).1) (s.short.lower w); upper = s.short.upper };
 }
 
@@ -115,72 +46,9 @@ fair key box v lo hi cut lt h full = record {
 
 -- ---- points
 
--- how many values of the variable lie within the bounds
-abbrev number : PlainBounds → ℕ → ℕ
-number b v = number_between (lower_of b v) (upper_of b v)
-
--- the numbers of two bounds are the same over a range
-same_over : (b c : PlainBounds) (a n : ℕ) → ((w : ℕ) → a ≤ w → w < a + n → number c w ≡ number b w) → points_over c (range_with_len a n) ≡ points_over b (range_with_len a n)
-same_over b c a zero h = refl
-same_over b c a (suc n) h =
-    ap (λ (k : ℕ). k * points_over c (range_with_len (a + 1) n)) (h a (omega arith) (omega arith)) ∙ ap (λ (k : ℕ). number b a * k) (same_over b c (a + 1) n (λ w low high. h w (omega arith) (omega arith)))
-
--- two bounds that share the values of one variable, and have all values of the others
-record Shares (b c d : PlainBounds) (v : ℕ) : Type 0 where
-  at : number c v + number d v ≡ number b v
-  first : (w : ℕ) → w ≢ v → number c w ≡ number b w
-  second : (w : ℕ) → w ≢ v → number d w ≡ number b w
-
-times_first : (x y n p q r : ℕ) → p ≡ r → q ≡ r → x + y ≡ n → x * p + y * q ≡ n * r
-times_first x y n p q r same_p same_q total =
-    ap (λ (k : ℕ). x * k + y * q) same_p ∙ ap (λ (k : ℕ). x * r + y * k) same_q ∙ omega (arith, ap (λ (k : ℕ). k * r) total)
-
-times_rest : (x y n p q r : ℕ) → x ≡ n → y ≡ n → p + q ≡ r → x * p + y * q ≡ n * r
-times_rest x y n p q r same_x same_y total =
-    ap (λ (k : ℕ). k * p + y * q) same_x ∙ ap (λ (k : ℕ). n * p + k * q) same_y ∙ omega (arith, ap (λ (k : ℕ). n * k) total)
-
-shared_over : (b c d : PlainBounds) (v a n : ℕ) → Shares b c d v → a ≤ v → v < a + n → points_over c (range_with_len a n) + points_over d (range_with_len a n) ≡ points_over b (range_with_len a n)
-shared_over b c d v a zero h low high = absurd (omega arith)
-shared_over b c d v a (suc n) h low high =
-    by_same a v (λ same. times_first (number c a) (number d a) (number b a) (points_over c (range_with_len (a + 1) n)) (points_over d (range_with_len (a + 1) n)) (points_over b (range_with_len (a + 1) n)) (same_over b c (a + 1) n (λ w lo hi. h.first w (λ e. omega arith))) (same_over b d (a + 1) n (λ w lo hi. h.second w (λ e. omega arith))) (subst (λ u. number c u + number d u ≡ number b u) (sym same) h.at)) (λ other. times_rest (number c a) (number d a) (number b a) (points_over c (range_with_len (a + 1) n)) (points_over d (range_with_len (a + 1) n)) (points_over b (range_with_len (a + 1) n)) (h.first a other) (h.second a other) (shared_over b c d v (a + 1) n h (omega (arith, other)) (omega arith)))
-
--- the numbers from lo to the cut, and from behind it to hi
-between : (lo hi : ℤ) → lo ≤ℤ hi → number_between (Some lo) (Some hi) ≡ suc (unsigned_abs (hi -ℤ lo))
-between lo hi h = ap (λ (t : Bool). cond t 0 (suc (unsigned_abs (hi -ℤ lo)))) (apart hi lo h)
-
-parts : (lo hi cut : ℤ) → lo ≤ℤ cut → cut <ℤ hi → number_between (Some lo) (Some cut) + number_between (Some (cut +ℤ pos 1)) (Some hi) ≡ number_between (Some lo) (Some hi)
-parts lo hi cut low high =
-    let first = between lo cut low in
-    let second = between (cut +ℤ pos 1) hi (omega (arith, ints)) in
-    let all = between lo hi (omega (arith, ints)) in
-    omega (arith, ints, first, second, all)
-
-halves_share : (b : PlainBounds) (v : ℕ) (lo hi cut : ℤ) → IsCut b v lo hi cut → Shares b (with_upper b v cut) (with_lower b v (cut +ℤ pos 1)) v
-halves_share b v lo hi cut h = record {
-  at = ap (λ (o : Option ℤ). number_between (lower_of b v) o + number (with_lower b v (cut +ℤ pos 1)) v) (upper-cut b v lo hi cut h) ∙ ap (λ (o : Option ℤ). number_between (lower_of b v) (Some cut) + number_between o (upper_of b v)) (lower-cut b v lo hi cut h) ∙ ap (λ (o : Option ℤ). number_between o (Some cut) + number_between (Some (cut +ℤ pos 1)) (upper_of b v)) h.lower ∙ ap (λ (o : Option ℤ). number_between (Some lo) (Some cut) + number_between (Some (cut +ℤ pos 1)) o) h.upper ∙ parts lo hi cut h.from h.to ∙ ap (λ (o : Option ℤ). number_between o (Some hi)) (sym h.lower) ∙ ap (λ (o : Option ℤ). number_between (lower_of b v) o) (sym h.upper);
-  first = λ w other. ap (λ (o : Option ℤ). number_between (lower_of b w) o) (upper-other b v w cut other);
-  second = λ w other. ap (λ (o : Option ℤ). number_between o (upper_of b w)) (lower-other b v w cut other);
-}
-
 pub points-shared : (key : List PlainKeyAtom) (box : PlainBox) (v : ℕ) (lo hi cut : ℤ) → v < key_width key → IsCut box.bounds v lo hi cut → points_of key (left_half box v cut) + points_of key (right_half box v cut) ≡ points_of key box
-points-shared key box v lo hi cut lt h =
-    shared_over box.bounds (with_upper box.bounds v cut) (with_lower box.bounds v (cut +ℤ pos 1)) v 0 (key_width key) (halves_share box.bounds v lo hi cut h) (omega arith) (omega arith)
+points-shared key box v lo hi cut lt h = halves-points box.bounds (key_width key) v lo hi cut lt h
 
 -- a box that isn't empty has a point
-some_number : (o q : Option ℤ) → is_some o ≡ true → is_some q ≡ true → crosses o q ≡ false → 1 ≤ number_between o q
-some_number None q f g h = absurd (cc)
-some_number (Some l) None f g h = absurd (cc)
-some_number (Some l) (Some u) f g h = subst (λ (t : Bool). 1 ≤ cond t 0 (suc (unsigned_abs (u -ℤ l)))) (sym h) (omega arith)
-
-product_some : (x y : ℕ) → 1 ≤ x → 1 ≤ y → 1 ≤ x * y
-product_some (suc x) (suc y) f g = omega arith
-product_some zero y f g = absurd (omega arith)
-product_some (suc x) zero f g = absurd (omega arith)
-
-some_over : (b : PlainBounds) (a n : ℕ) → ((w : ℕ) → a ≤ w → w < a + n → 1 ≤ number b w) → 1 ≤ points_over b (range_with_len a n)
-some_over b a zero h = omega arith
-some_over b a (suc n) h = product_some (number b a) (points_over b (range_with_len (a + 1) n)) (h a (omega arith) (omega arith)) (some_over b (a + 1) n (λ w low high. h w (omega arith) (omega arith)))
-
 pub has_point : (key : List PlainKeyAtom) (box : PlainBox) → key_width key ≤ 64 → IsSearchBox key box → 1 ≤ points_of key box
-has_point key box narrow s =
-    some_over box.bounds 0 (key_width key) (λ w low high. some_number (lower_of box.bounds w) (upper_of box.bounds w) (s.boxed w (omega arith)).lower (s.boxed w (omega arith)).upper (not_crossed box.bounds w (omega arith) s.not_empty))
+has_point key box narrow s = points-some key box.bounds narrow s.boxed s.not_empty

@@ -13,6 +13,7 @@ use Rattle.refutation.specs.Bounds.{is_empty}
 use Rattle.refutation.specs.Box.{PlainBox, left_half, right_half, on_side}
 use Rattle.refutation.specs.Leaf.{combo_closes, fixed_closes}
 use Rattle.refutation.specs.Reading.{Treated, treated, is_split, names_ne, reading, refuted, fails_at}
+use Rattle.refutation.proofs.LookUps.{some_and}
 use Rattle.refutation.specs.SearchTree.{Rule, KeepsRule, decided, Searches, boxes_left, is_left, is_inner, inner_count, NoInnerAfterLeft, FirstLeftIsUndecided, IsUndecided}
 
 -- ---- one node, with more terms behind
@@ -60,10 +61,6 @@ decided-more key box Empty terms more r h = chosen-more (is_empty box.bounds) []
 decided-more key box Left terms more r h = chosen-more true [] terms more r h
 
 -- ---- more nodes
-
-some_and : {X : Type 0} (o : Option X) (P : X → Type 0) → IsSomeAnd o P → (x : X) × (o ≡ Some x) × P x
-some_and None P h = absurd h
-some_and (Some x) P h = (x, refl, h)
 
 -- the boxes that a node leaves, where it is read
 left-step : (key : List PlainKeyAtom) (node : Node) (nodes : List Node) (terms : List LeafTerm) (box : PlainBox) (boxes : List PlainBox) (r : Treated) → decided key box node terms ≡ Some r → boxes_left key (node ∷ nodes) terms (box ∷ boxes) ≡ boxes_left key nodes r.terms (r.boxes ++ boxes)

@@ -21,6 +21,7 @@ use Rattle.refutation.specs.Leaf.{ClosedByOneAtom, fixed, fixed_closes}
 use Rattle.refutation.specs.Reading.{Treated, treated, Refutes}
 use Rattle.refutation.specs.SearchOrder.{lowest_corner, lower_or_zero, upper_or_zero, middle}
 use Rattle.refutation.specs.SearchTree.{any_split, KeepsRule, IsUndecided, decided, Searches, boxes_left, is_left, inner_count, IsOpenTree, doubling, room}
+use Rattle.refutation.proofs.SplitLemmas.{IsCut}
 use Rattle.box_solver.specs.Region.{PlainRegion, Adds, Grows}
 use Rattle.box_solver.specs.declared.one_atom.OneAtom.{OneAtom}
 use Rattle.box_solver.specs.declared.one_atom.OneAtom.TheVariants.{Term, Fixed as FixedAtom}
@@ -29,7 +30,7 @@ use Rattle.box_solver.specs.Halving.{IsWidest}
 use Rattle.box_solver.specs.Progress.{IsSearchBox, points_of, points_in, HasRead, IsAt, FirstIsSplit}
 use Rattle.box_solver.proofs.ReadLemmas.{Searches-append, boxes_left-append, refuted-from_search, first_left-append, lefts-search, lefts-left, lefts-inner, inner_count-append, NoInnerAfterLeft-append}
 use Rattle.box_solver.proofs.OneAtomLemmas.{not_by_one}
-use Rattle.box_solver.proofs.HalvesLemmas.{IsCut, cut-short, left-fits, right-fits, fair, points-shared, has_point}
+use Rattle.box_solver.proofs.HalvesLemmas.{cut-short, left-fits, right-fits, fair, points-shared, has_point}
 use Rattle.box_solver.proofs.CornerLemmas.{widest-wide, flat-holds, sides-of}
 
 -- ---- regions

@@ -25,6 +25,9 @@ keys-width : (atoms : List PlainKeyAtom) → All IsCanonical atoms → key_width
 keys-width [] h = omega arith
 keys-width (a ∷ atoms) h = omega (arith, form-width a.form (h 0 a (omega arith)).form.variables.in_range, keys-width atoms (λ k d lt. h (suc k) d (omega arith)))
 
+pub key-narrow : (key : List PlainKeyAtom) → IsKey key → key_width key ≤ 64
+key-narrow key h = keys-width key h.canonical
+
 -- ---- the side that one atom gives
 
 not_below : (n m : ℤ) → m ≤ℤ n → int_lt n m ≡ false
@@ -113,7 +116,7 @@ upper-there atoms v (k, a, lt, is, gives) = upper-by_one atoms v k a lt is (uppe
 pub bounded-boxed : (key : List PlainKeyAtom) → IsKey key → IsBounded key → IsBoxed key
 unfolding key_bounds variables
 bounded-boxed key is_key bounded v lt =
-    let narrow : key_width key ≤ 64 = keys-width key is_key.canonical in
+    let narrow : key_width key ≤ 64 = key-narrow key is_key in
     record {
       lower = ap is_some (get_or-map-range_with_len (lower_bound key) 0 64 v v None (omega (arith, narrow)) (omega arith)) ∙ lower-there key v (bounded.lower v lt);
       upper = ap is_some (get_or-map-range_with_len (upper_bound key) 0 64 v v None (omega (arith, narrow)) (omega arith)) ∙ upper-there key v (bounded.upper v lt);

@@ -12,3 +12,5 @@ pub mod WalkLemmas
 pub mod ReadingLemmas
 pub mod BoxedLemmas
 pub mod BoundedLemmas
+pub mod SplitLemmas
+pub mod RoomLemmas

@@ -1,7 +1,7 @@
 -- What a test or a look-up that succeeds says of its parts.
 use Rattle.std.proofs.Common.{◌≡◌, ℕ, zero, suc, Bool, true, false, not, cond, ◌&&◌, ◌||◌, Option, Some, None, List, [], ◌∷◌, slice_get, ◌⊎◌, inl, inr, refl, subst}
 use Rattle.std.specs.List.{All}
-use Rattle.std.specs.Option.{option_map, option_and_then, option_map_or}
+use Rattle.std.specs.Option.{IsSomeAnd, option_map, option_and_then, option_map_or}
 use Rattle.std.proofs.lemmas.List.Elements.{All-head, All-tail}
 
 pub and_true : (b c : Bool) → (b && c) ≡ true → (b ≡ true) × (c ≡ true)
@@ -33,6 +33,10 @@ bound_some (Some x) f y h = (x, refl, h)
 pub mapped_some : {X Y : Type 0} (o : Option X) (f : X → Y) (y : Y) → option_map f o ≡ Some y → (x : X) × (o ≡ Some x) × (f x ≡ y)
 mapped_some None f y h = absurd (cc)
 mapped_some (Some x) f y h = (x, refl, cc)
+
+pub some_and : {X : Type 0} (o : Option X) (P : X → Type 0) → IsSomeAnd o P → (x : X) × (o ≡ Some x) × P x
+some_and None P h = absurd h
+some_and (Some x) P h = (x, refl, h)
 
 -- what holds of all elements holds of the one that a look-up gives
 pub All-at : {X : Type 0} (P : X → Type 0) (xs : List X) (i : ℕ) (x : X) → All P xs → slice_get xs i ≡ Some x → P x

@@ -1,5 +1,5 @@
 //! Laws of refutations and bounds, each the contract of a function that does nothing.
-ghost use Rattle.refutation.specs.Laws.{RefutedHasNoPoint, BoundedIsBoxed};
+ghost use Rattle.refutation.specs.Laws.{RefutedHasNoPoint, BoundedIsBoxed, OpenTreesAreBelowRoom};
 
 /// No point satisfies a key that some tree refutes.
 pub fn refuted_keys_have_no_point()
@@ -9,4 +9,9 @@ pub fn refuted_keys_have_no_point()
 /// A key that bounds each of its variables on both sides has both sides of each.
 pub fn bounded_keys_are_boxed()
     ensures { BoundedIsBoxed }
+{}
+
+/// An open tree has fewer splits than its key has room.
+pub fn open_trees_are_below_room()
+    ensures { OpenTreesAreBelowRoom }
 {}

@@ -21,7 +21,7 @@ pub use bounds::Bounds;
 pub use checker::refutes;
 pub use closing::closes;
 pub use fault::TreeFault;
-pub use laws::{bounded_keys_are_boxed, refuted_keys_have_no_point};
+pub use laws::{bounded_keys_are_boxed, open_trees_are_below_room, refuted_keys_have_no_point};
 pub use leaf::{Leaf, LeafTerm, On};
 pub use node::Node;
 pub use side::Side;

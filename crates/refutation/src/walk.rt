@@ -71,6 +71,7 @@ impl Walk {
     }
 
     /// Splits the first box at a cut of a variable.
+    /// After want of memory the walk says nothing of the boxes, and is to be dropped.
     pub fn split(&mut self, var: u8, cut: i64) -> Result<(), NoMemory>
         requires var { var < 64 }
         requires cut { unsigned_abs cut ≤ 2 ^ 32 }
@@ -84,6 +85,7 @@ impl Walk {
     }
 
     /// Splits the first box by an atom `form != c`.
+    /// After want of memory the walk says nothing of the boxes, and is to be dropped.
     pub fn split_ne(&mut self, atom: u16) -> Result<(), NoMemory>
         ensures { (box : PlainBox) (rest : List PlainBox) → self.old ≡ box ∷ rest
             → OnOk result (self.new ≡ on_side box atom false ∷ on_side box atom true ∷ rest) }
@@ -118,6 +120,7 @@ impl Walk {
     }
 
     /// Takes the first box off the list.
+    /// After want of memory the walk says nothing of the boxes, and is to be dropped.
     pub fn close(&mut self) -> Result<(), NoMemory>
         requires { 0 < length self.old }
         ensures { OnOk result (self.new ≡ drop 1 self.old) }

@@ -8,7 +8,8 @@ use Rattle.refutation.specs.Boxed.{HasShortSides}
 use Rattle.refutation.specs.SearchOrder.{lowest_corner}
 use Rattle.refutation.proofs.ReadingLemmas.{some_box, no_box}
 use Rattle.box_solver.specs.Progress.{IsAt}
-use Rattle.box_solver.proofs.CornerLemmas.{key-narrow, corner-length}
+use Rattle.refutation.proofs.BoundedLemmas.{key-narrow}
+use Rattle.box_solver.proofs.CornerLemmas.{corner-length}
 use Rattle.box_solver.proofs.StateLemmas.{grows-pushed, adds-adds, at-start, first-fits, first-split, is_undecided}
 use Rattle.box_solver.proofs.AnswerLemmas.{model-tree, refuting-tree, empty-tree, spent-tree}
 use Rattle.box_solver.proofs.search.search.Goals as goal

@@ -1,0 +1,246 @@
+-- An open tree has fewer splits than its key has room: the undecided boxes and the splits weigh no more than the root.
+use Rattle.std.proofs.Common.{◌≡◌, ◌≢◌, ℕ, zero, suc, ◌+◌, ◌*◌, ◌<◌, ◌≤◌, ℤ, Bool, true, false, not, cond, ◌&&◌, ◌||◌, eqb, Some, None, List, [], ◌∷◌, ◌++◌, length, take, drop, nat_le, slice_get, refl, ap, sym, ◌∙◌, subst, arith}
+use Rattle.std.specs.List.{All, list_any, range_with_len}
+use Rattle.std.specs.Option.{IsSomeAnd}
+use Rattle.std.proofs.lemmas.Bool.Decides.{nat_tests}
+use Rattle.std.proofs.lemmas.List.{length-append}
+use Rattle.std.proofs.lemmas.List.Elements.{All-nil, All-cons, All-append, All-head, All-tail}
+use Rattle.std.proofs.lemmas.List.Sums.{sum_by-append}
+use Rattle.lin_model.specs.KeyAtom.{PlainKeyAtom}
+use Rattle.lin_model.specs.Key.{IsKey, key_width}
+use Rattle.refutation.specs.declared.leaf.LeafTerm.{LeafTerm}
+use Rattle.refutation.specs.declared.node.Node.{Node}
+use Rattle.refutation.specs.declared.node.Node.TheVariants.{Split, NeSplit, Combo, Fixed, Empty, Left}
+use Rattle.refutation.specs.declared.side.Side.{Side}
+use Rattle.refutation.specs.Bounds.{key_bounds, is_empty}
+use Rattle.refutation.specs.Box.{PlainBox, root_box, is_ne, left_half, right_half, on_side}
+use Rattle.refutation.specs.Boxed.{IsBoxed, IsBoxedIn}
+use Rattle.refutation.specs.Leaf.{combo, fixed, empty, closes}
+use Rattle.refutation.specs.Reading.{Treated, treated, closed_by, is_split, names_ne}
+use Rattle.refutation.specs.SearchTree.{Rule, KeepsRule, IsFairSplit, IsUndecided, decided, Searches, is_inner, is_left, inner_count, FirstLeftIsUndecided, IsOpenTree, points_over, doubling, room}
+use Rattle.refutation.proofs.LookUps.{chosen, test_found, some_and}
+use Rattle.refutation.proofs.BoundedLemmas.{key-narrow}
+use Rattle.refutation.proofs.SplitLemmas.{fair-cut, left-boxed, right-boxed, halves-points, points-some}
+
+-- ---- atoms that no side names
+
+abbrev is_named : List Side → ℕ → Bool
+is_named sides n = list_any (λ side. eqb side.atom n) sides
+
+-- 2 for each atom `form != c` that no side names; n is the number of the first atom
+abbrev doubling_left : List Side → ℕ → List PlainKeyAtom → ℕ
+doubling_left sides n [] = 1
+doubling_left sides n (a ∷ atoms) = cond (is_ne a && not (is_named sides n)) 2 1 * doubling_left sides (n + 1) atoms
+
+eqb-other : (i j : ℕ) → i ≢ j → eqb i j ≡ false
+eqb-other i j h = grind (arith, nat_tests)
+
+eqb-same : (i j : ℕ) → i ≡ j → eqb i j ≡ true
+eqb-same i j h = grind (arith, nat_tests)
+
+-- what one side more names
+named-other : (sides : List Side) (side : Side) (n : ℕ) → side.atom ≢ n → is_named (sides ++ side ∷ []) n ≡ is_named sides n
+named-other [] side n other = ap (λ (b : Bool). b || false) (eqb-other side.atom n other)
+named-other (s ∷ sides) side n other = ap (λ (b : Bool). eqb s.atom n || b) (named-other sides side n other)
+
+named-here : (sides : List Side) (side : Side) (n : ℕ) → side.atom ≡ n → is_named (sides ++ side ∷ []) n ≡ true
+named-here [] side n same = ap (λ (b : Bool). b || false) (eqb-same side.atom n same)
+named-here (s ∷ sides) side n same = or_second (eqb s.atom n) (is_named (sides ++ side ∷ []) n) (named-here sides side n same)
+  where
+    or_second : (b c : Bool) → c ≡ true → (b || c) ≡ true
+    or_second true c h = refl
+    or_second false c h = h
+
+not_named : (sides : List Side) (n : ℕ) → All (λ side. side.atom ≢ n) sides → is_named sides n ≡ false
+not_named [] n h = refl
+not_named (s ∷ sides) n h =
+    ap (λ (b : Bool). b || is_named sides n) (eqb-other s.atom n (All-head (λ side. side.atom ≢ n) s sides h)) ∙ not_named sides n (All-tail (λ side. side.atom ≢ n) s sides h)
+
+and_not : (t u v : Bool) → t ≡ true → u ≡ v → (t && not u) ≡ not v
+and_not true u v h same = ap not same
+and_not false u v h same = absurd (cc)
+
+and_all : (t u : Bool) → u ≡ false → t ≡ (t && not u)
+and_all true u none = sym (ap not none)
+and_all false u none = refl
+
+-- the root names none
+doubling-root : (n : ℕ) (atoms : List PlainKeyAtom) → doubling_left [] n atoms ≡ doubling atoms
+doubling-root n [] = refl
+doubling-root n (a ∷ atoms) =
+    ap (λ (b : Bool). cond b 2 1 * doubling_left [] (n + 1) atoms) (sym (and_all (is_ne a) false refl)) ∙ ap (λ (k : ℕ). cond (is_ne a) 2 1 * k) (doubling-root (n + 1) atoms)
+
+doubling-some : (sides : List Side) (n : ℕ) (atoms : List PlainKeyAtom) → 1 ≤ doubling_left sides n atoms
+doubling-some sides n [] = omega arith
+doubling-some sides n (a ∷ atoms) = by_test (is_ne a && not (is_named sides n)) (doubling_left sides (n + 1) atoms) (doubling-some sides (n + 1) atoms)
+  where
+    by_test : (b : Bool) (k : ℕ) → 1 ≤ k → 1 ≤ cond b 2 1 * k
+    by_test true k h = omega arith
+    by_test false k h = omega arith
+
+-- a side of an atom before these changes nothing
+doubling-same : (sides : List Side) (side : Side) (n : ℕ) (atoms : List PlainKeyAtom) → side.atom < n → doubling_left (sides ++ side ∷ []) n atoms ≡ doubling_left sides n atoms
+doubling-same sides side n [] lt = refl
+doubling-same sides side n (a ∷ atoms) lt =
+    ap (λ (b : Bool). cond (is_ne a && not b) 2 1 * doubling_left (sides ++ side ∷ []) (n + 1) atoms) (named-other sides side n (λ e. omega arith)) ∙ ap (λ (k : ℕ). cond (is_ne a && not (is_named sides n)) 2 1 * k) (doubling-same sides side (n + 1) atoms (omega arith))
+
+-- a side of an atom `form != c` that no other side names halves the doubling
+doubling-halved : (sides : List Side) (side : Side) (n k : ℕ) (atoms : List PlainKeyAtom) (a : PlainKeyAtom) → side.atom ≡ n + k → is_named sides side.atom ≡ false → slice_get atoms k ≡ Some a → is_ne a ≡ true → 2 * doubling_left (sides ++ side ∷ []) n atoms ≡ doubling_left sides n atoms
+doubling-halved sides side n k [] a at fresh is ne = absurd (cc)
+doubling-halved sides side n zero (b ∷ atoms) a at fresh is ne =
+    let here : side.atom ≡ n = omega arith in
+    let same : a ≡ b = cc in
+    let ne' : is_ne b ≡ true = subst (λ (x : PlainKeyAtom). is_ne x ≡ true) same ne in
+    let before = and_not (is_ne b) (is_named sides n) false ne' (subst (λ m. is_named sides m ≡ false) here fresh) in
+    let after = and_not (is_ne b) (is_named (sides ++ side ∷ []) n) true ne' (named-here sides side n here) in
+    by_tests (is_ne b && not (is_named sides n)) (is_ne b && not (is_named (sides ++ side ∷ []) n)) (doubling_left sides (n + 1) atoms) (doubling_left (sides ++ side ∷ []) (n + 1) atoms) before after (doubling-same sides side (n + 1) atoms (omega arith))
+  where
+    by_tests : (t u : Bool) (x y : ℕ) → t ≡ true → u ≡ false → y ≡ x → 2 * (cond u 2 1 * y) ≡ cond t 2 1 * x
+    by_tests true true x y f g h = absurd (cc)
+    by_tests true false x y f g h = omega arith
+    by_tests false u x y f g h = absurd (cc)
+doubling-halved sides side n (suc k) (b ∷ atoms) a at fresh is ne =
+    let head = ap (λ (t : Bool). cond (is_ne b && not t) 2 1 * doubling_left (sides ++ side ∷ []) (n + 1) atoms) (named-other sides side n (λ e. omega arith)) in
+    let tail = doubling-halved sides side (n + 1) k atoms a (omega arith) fresh is ne in
+    ap (λ (m : ℕ). 2 * m) head ∙ by_test (is_ne b && not (is_named sides n)) (doubling_left (sides ++ side ∷ []) (n + 1) atoms) (doubling_left sides (n + 1) atoms) tail
+  where
+    by_test : (t : Bool) (x y : ℕ) → 2 * x ≡ y → 2 * (cond t 2 1 * x) ≡ cond t 2 1 * y
+    by_test true x y h = omega arith
+    by_test false x y h = omega arith
+
+-- ---- the weight of a box
+
+-- its points over the key's variables, doubled for each atom `form != c` that it may still be split by
+abbrev weight_of : List PlainKeyAtom → PlainBox → ℕ
+weight_of key box = points_over box.bounds (range_with_len 0 (key_width key)) * doubling_left box.sides 0 key
+
+abbrev weight_in : List PlainKeyAtom → List PlainBox → ℕ
+weight_in key [] = 0
+weight_in key (box ∷ boxes) = weight_of key box + weight_in key boxes
+
+-- a box that has a point over the key's variables
+record HasRoom (key : List PlainKeyAtom) (box : PlainBox) : Type 0 where
+  full : is_empty box.bounds ≡ false
+  boxed : IsBoxedIn key box.bounds
+
+weight-some : (key : List PlainKeyAtom) (box : PlainBox) → key_width key ≤ 64 → HasRoom key box → 1 ≤ weight_of key box
+weight-some key box narrow h =
+    product (points_over box.bounds (range_with_len 0 (key_width key))) (doubling_left box.sides 0 key) (points-some key box.bounds narrow h.boxed h.full) (doubling-some box.sides 0 key)
+  where
+    product : (x y : ℕ) → 1 ≤ x → 1 ≤ y → 1 ≤ x * y
+    product (suc x) (suc y) f g = omega arith
+    product zero y f g = absurd (omega arith)
+    product (suc x) zero f g = absurd (omega arith)
+
+weight-many : (key : List PlainKeyAtom) (boxes : List PlainBox) → key_width key ≤ 64 → All (HasRoom key) boxes → length boxes ≤ weight_in key boxes
+weight-many key [] narrow h = omega arith
+weight-many key (box ∷ boxes) narrow h =
+    omega (arith, weight-some key box narrow (All-head (HasRoom key) box boxes h), weight-many key boxes narrow (All-tail (HasRoom key) box boxes h))
+
+weight_in-append : (key : List PlainKeyAtom) (boxes more : List PlainBox) → weight_in key (boxes ++ more) ≡ weight_in key boxes + weight_in key more
+weight_in-append key [] more = omega arith
+weight_in-append key (box ∷ boxes) more = omega (arith, weight_in-append key boxes more)
+
+-- ---- one node
+
+-- what a node leaves of a box: boxes that have room, and that with the split weigh no more than it
+record Shares (key : List PlainKeyAtom) (box : PlainBox) (inner : ℕ) (boxes : List PlainBox) : Type 0 where
+  room : All (HasRoom key) boxes
+  weight : weight_in key boxes + inner + 1 ≤ weight_of key box + length boxes
+
+two-room : (key : List PlainKeyAtom) (left right : PlainBox) → HasRoom key left → HasRoom key right → All (HasRoom key) (left ∷ right ∷ [])
+two-room key left right f g = All-cons (HasRoom key) left (right ∷ []) f (All-cons (HasRoom key) right [] g (All-nil (HasRoom key)))
+
+split-shares : (key : List PlainKeyAtom) (box : PlainBox) (v : ℕ) (cut : ℤ) → key_width key ≤ 64 → HasRoom key box → IsFairSplit key box v cut → Shares key box 1 (left_half box v cut ∷ right_half box v cut ∷ [])
+split-shares key box v cut narrow h fair =
+    let is = fair-cut key box v cut narrow h.boxed fair in
+    let points = halves-points box.bounds (key_width key) v is.0 is.1 cut fair.of_key is.2 in
+    let weights = ap (λ (n : ℕ). n * doubling_left box.sides 0 key) points in
+    record {
+      room = two-room key (left_half box v cut) (right_half box v cut) (record { full = fair.left; boxed = left-boxed key box.bounds v is.0 is.1 cut is.2 h.boxed }) (record { full = fair.right; boxed = right-boxed key box.bounds v is.0 is.1 cut is.2 h.boxed });
+      weight = omega (arith, weights);
+    }
+
+ne-shares : (key : List PlainKeyAtom) (box : PlainBox) (i : ℕ) → HasRoom key box → All (λ side. side.atom ≢ i) box.sides → names_ne key i ≡ true → Shares key box 1 (on_side box i false ∷ on_side box i true ∷ [])
+ne-shares key box i h fresh names =
+    let found = test_found (slice_get key i) is_ne names in
+    let half = λ (upper : Bool). ap (λ (n : ℕ). points_over box.bounds (range_with_len 0 (key_width key)) * n) (doubling-halved box.sides (record { atom = i; upper = upper }) 0 i key found.0 (omega arith) (not_named box.sides i fresh) found.1 found.2) in
+    record {
+      room = two-room key (on_side box i false) (on_side box i true) (record { full = h.full; boxed = h.boxed }) (record { full = h.full; boxed = h.boxed });
+      weight = omega (arith, half false, half true);
+    }
+
+closed-shares : (key : List PlainKeyAtom) (box : PlainBox) → key_width key ≤ 64 → HasRoom key box → Shares key box 0 []
+closed-shares key box narrow h = record { room = All-nil (HasRoom key); weight = omega (arith, weight-some key box narrow h) }
+
+-- where a choice has a value, that is what it chose
+chosen-shares : (key : List PlainKeyAtom) (box : PlainBox) (inner : ℕ) (b : Bool) (v r : Treated) → cond b (Some v) None ≡ Some r → (b ≡ true → Shares key box inner v.boxes) → Shares key box inner r.boxes
+chosen-shares key box inner b v r is h =
+    let two = chosen b v r is in subst (λ (t : Treated). Shares key box inner t.boxes) two.1 (h two.0)
+
+node-shares : (rule : Rule) (key : List PlainKeyAtom) (box : PlainBox) (node : Node) (terms : List LeafTerm) (r : Treated) → key_width key ≤ 64 → HasRoom key box → KeepsRule rule key box node → decided key box node terms ≡ Some r → Shares key box (inner_count (node ∷ [])) r.boxes
+unfolding treated
+node-shares rule key box (Split v cut) terms r narrow h keeps is =
+    chosen-shares key box 1 (is_split v cut) (record { boxes = left_half box v cut ∷ right_half box v cut ∷ []; terms = terms }) r is (λ _. split-shares key box v cut narrow h keeps.fair)
+node-shares rule key box (NeSplit i) terms r narrow h keeps is =
+    chosen-shares key box 1 (names_ne key i) (record { boxes = on_side box i false ∷ on_side box i true ∷ []; terms = terms }) r is (ne-shares key box i h keeps.fair)
+node-shares rule key box (Combo count) terms r narrow h keeps is =
+    chosen-shares key box 0 (nat_le count (length terms) && closes key box (combo (take count terms))) (record { boxes = []; terms = drop count terms }) r is (λ _. closed-shares key box narrow h)
+node-shares rule key box (Fixed i) terms r narrow h keeps is =
+    chosen-shares key box 0 (closes key box (fixed i)) (record { boxes = []; terms = terms }) r is (λ _. closed-shares key box narrow h)
+node-shares rule key box Empty terms r narrow h keeps is =
+    chosen-shares key box 0 (closes key box empty) (record { boxes = []; terms = terms }) r is (λ _. closed-shares key box narrow h)
+node-shares rule key box Left terms r narrow h keeps is =
+    chosen-shares key box 0 true (record { boxes = []; terms = terms }) r is (λ _. closed-shares key box narrow h)
+
+-- ---- all nodes
+
+inner_count-cons : (node : Node) (nodes : List Node) → inner_count (node ∷ nodes) ≡ inner_count (node ∷ []) + inner_count nodes
+inner_count-cons node nodes = sum_by-append (λ (n : Node). cond (is_inner n) 1 0) (node ∷ []) nodes
+
+-- the splits that are read over boxes, and these, are together no more than the weight of the boxes
+splits-few : (rule : Rule) (key : List PlainKeyAtom) (nodes : List Node) (terms : List LeafTerm) (boxes : List PlainBox) → key_width key ≤ 64 → All (HasRoom key) boxes → Searches rule key nodes terms boxes → inner_count nodes + length boxes ≤ weight_in key boxes
+unfolding Searches
+splits-few rule key [] terms boxes narrow fit h = omega (arith, weight-many key boxes narrow fit)
+splits-few rule key (node ∷ nodes) terms [] narrow fit h = absurd h
+splits-few rule key (node ∷ nodes) terms (box ∷ boxes) narrow fit h =
+    let on = some_and (decided key box node terms) (λ (r : Treated). Searches rule key nodes r.terms (r.boxes ++ boxes)) h.1 in
+    let shares = node-shares rule key box node terms on.0 narrow (All-head (HasRoom key) box boxes fit) h.0 on.1 in
+    let rest = splits-few rule key nodes on.0.terms (on.0.boxes ++ boxes) narrow (All-append (HasRoom key) on.0.boxes boxes shares.room (All-tail (HasRoom key) box boxes fit)) on.2 in
+    omega (arith, shares.weight, rest, weight_in-append key on.0.boxes boxes, length-append on.0.boxes boxes, inner_count-cons node nodes)
+
+-- ---- the root of an open tree isn't empty
+
+undecided-full : (rule : Rule) (key : List PlainKeyAtom) (box : PlainBox) → IsUndecided rule key box → is_empty box.bounds ≡ false
+undecided-full rule key box h = by_test (is_empty box.bounds) refl
+  where
+    by_test : (b : Bool) → is_empty box.bounds ≡ b → is_empty box.bounds ≡ false
+    by_test true is = absurd (h.not_by_one (empty, refl, is))
+    by_test false is = is
+
+-- no node follows a leaf that closes the last box
+none_follows : (rule : Rule) (key : List PlainKeyAtom) (nodes : List Node) (b : Bool) (terms : List LeafTerm) → IsSomeAnd (closed_by b terms) (λ (r : Treated). Searches rule key nodes r.terms (r.boxes ++ [])) → list_any is_left nodes ≡ true → ⊥
+unfolding Searches
+none_follows rule key [] b terms h left = absurd (cc)
+none_follows rule key (node ∷ nodes) true terms h left = h
+none_follows rule key (node ∷ nodes) false terms h left = h
+
+first-full : (rule : Rule) (key : List PlainKeyAtom) (nodes : List Node) (terms : List LeafTerm) (box : PlainBox) → Searches rule key nodes terms (box ∷ []) → list_any is_left nodes ≡ true → FirstLeftIsUndecided rule key nodes terms (box ∷ []) → is_empty box.bounds ≡ false
+unfolding Searches FirstLeftIsUndecided treated
+first-full rule key [] terms box h left first = absurd (cc)
+first-full rule key (Split v cut ∷ nodes) terms box h left first = undecided-full rule key box h.0.undecided
+first-full rule key (NeSplit i ∷ nodes) terms box h left first = undecided-full rule key box h.0.undecided
+first-full rule key (Combo count ∷ nodes) terms box h left first = absurd (none_follows rule key nodes (nat_le count (length terms) && closes key box (combo (take count terms))) (drop count terms) h.1 left)
+first-full rule key (Fixed i ∷ nodes) terms box h left first = absurd (none_follows rule key nodes (closes key box (fixed i)) terms h.1 left)
+first-full rule key (Empty ∷ nodes) terms box h left first = absurd (none_follows rule key nodes (closes key box empty) terms h.1 left)
+first-full rule key (Left ∷ nodes) terms box h left first = undecided-full rule key box first
+
+-- the theorem
+pub open-below_room : (rule : Rule) (key : List PlainKeyAtom) (splits : ℕ) (nodes : List Node) (terms : List LeafTerm) → IsKey key → IsBoxed key → IsOpenTree rule key splits nodes terms → splits < room key
+unfolding room
+open-below_room rule key splits nodes terms is boxed open_tree =
+    let full = first-full rule key nodes terms (root_box key) open_tree.search open_tree.has_left open_tree.first_left in
+    let fit = All-cons (HasRoom key) (root_box key) [] (record { full = full; boxed = boxed }) (All-nil (HasRoom key)) in
+    let few = splits-few rule key nodes terms (root_box key ∷ []) (key-narrow key is) fit open_tree.search in
+    let whole = ap (λ (n : ℕ). points_over (key_bounds key) (range_with_len 0 (key_width key)) * n) (doubling-root 0 key) in
+    omega (arith, few, whole, open_tree.inner)
