@@ -72,7 +72,7 @@ given_point (v ∷ back) values (n ∷ point) long placed = rw (placed 0 (omega 
 abbrev pub AreOthers : List SliceKey → SliceKey → Type 0
 AreOthers asked k = All (λ j. (v : ℕ) → Contains j.back v → Contains k.back v → ⊥) asked
 
-pub ask_model : (budget : ℕ) (q : PlainCondition) (asked : List SliceKey) (parts : List PlainPart) (least : Option ℕ) (old new : List ℤ) (k : SliceKey) (point : List ℤ) → IsAsked budget q asked parts least old → AreOthers asked k → IsModelOf k.key point → key_width k.key ≡ length k.back → length new ≡ length old → ((v : ℕ) → v < length k.back → value_at new (slice_index k.back v) ≡ value_at point v) → ((w : ℕ) → (Contains k.back w → ⊥) → value_at new w ≡ value_at old w) → IsAsked budget q (asked ++ k ∷ []) (parts ++ Solved ∷ []) least new
+pub ask_model : (budget : ℕ) (q : PlainCondition) (asked : List SliceKey) (parts : List PlainPart) (least : Option ℕ) (old new : List ℤ) (k : SliceKey) (point : List ℤ) → IsAsked budget q asked parts least old → AreOthers asked k → IsModelOf budget k.key point → key_width k.key ≡ length k.back → length new ≡ length old → ((v : ℕ) → v < length k.back → value_at new (slice_index k.back v) ≡ value_at point v) → ((w : ℕ) → (Contains k.back w → ⊥) → value_at new w ≡ value_at old w) → IsAsked budget q (asked ++ k ∷ []) (parts ++ Solved ∷ []) least new
 ask_model budget q asked parts least old new k point h others model width same placed kept = record {
   leaves = zip_push (λ (j : SliceKey) (part : PlainPart). KeyLeaves budget j.key part) asked parts k Solved h.leaves (point, model);
   first = first least h.first;
@@ -85,7 +85,7 @@ ask_model budget q asked parts least old new k point h others model width same p
     first (Some s) at = first_stays parts Solved s at
 
     here : IsMet new k
-    here = subst (KeyHolds k.key) (sym (given_point k.back new point (model.one_each ∙ width) placed)) model.holds
+    here = subst (KeyHolds k.key) (sym (given_point k.back new point (model.tree.one_each ∙ width) placed)) model.tree.holds
 
     still : (i : ℕ) (d : SliceKey) → i < length asked → IsMet old (get_or asked i d) → IsMet new (get_or asked i d)
     still i d lt met = subst (KeyHolds (get_or asked i d).key) (sym (kept_point (get_or asked i d).back old new (λ n e l. kept (get_or (get_or asked i d).back n e) (λ has. others i d lt (get_or (get_or asked i d).back n e) (n, l, get_or_default (get_or asked i d).back n (get_or (get_or asked i d).back n e) e l) has)))) met

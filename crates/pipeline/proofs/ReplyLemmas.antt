@@ -23,8 +23,8 @@ added : {X : Type 0} (whole front more : List X) → whole ≡ front ++ more →
 added {X} whole front more is = ap (λ (xs : List X). drop (length front) xs) is ∙ drop-append_seam front more
 
 pub reply-says : (key : List PlainKeyAtom) (budget : ℕ) (old new : PlainRegion) (found : Found) → IsKey key → RefutedHasNoPoint → Answers key budget old new found → Replies budget key (reply_to found (drop (length old.nodes) new.nodes) (drop (length old.terms) new.terms))
-reply-says key budget old new (FoundModel point) is_key law a = record { one_each = a.answer.one_each; holds = a.answer.holds }
-reply-says key budget old new FoundRefuted is_key law a = law key a.nodes a.terms is_key a.answer.refutes
+reply-says key budget old new (FoundModel point) is_key law a = record { nodes = a.nodes; terms = a.terms; tree = a.answer }
+reply-says key budget old new FoundRefuted is_key law a = record { nodes = a.nodes; terms = a.terms; tree = a.answer; none = law key a.nodes a.terms is_key a.answer.refutes }
 reply-says key budget old new FoundSpent is_key law a =
     record {
       open_tree = subst (λ (ns : List Node). IsOpenTree any_split key budget ns (drop (length old.terms) new.terms)) (sym (added new.nodes old.nodes a.nodes a.adds.nodes_after)) (subst (λ (ts : List LeafTerm). IsOpenTree any_split key budget a.nodes ts) (sym (added new.terms old.terms a.terms a.adds.terms_after)) a.answer.open_tree);

@@ -10,12 +10,11 @@ use Rattle.lin_model.specs.Conditions.{PlainCondition, Fits, IsSatisfiable}
 use Rattle.slicer.specs.Slices.{PlainSlice}
 use Rattle.slicer.specs.Laws.{SlicesPartition}
 use Rattle.canoniser.specs.Solutions.{IsNever, IsNeverAt}
-use Rattle.refutation.specs.Reading.{HasNoPoint}
 use Rattle.pipeline.specs.declared.slice_keys.SliceKey.{SliceKey}
 use Rattle.pipeline.specs.declared.answer.PlainPart.{PlainPart}
 use Rattle.pipeline.specs.declared.answer.PlainPart.TheVariants.{Solved, Open}
 use Rattle.pipeline.specs.declared.answer.Told.TheVariants.{Sat, UnsatAtom, UnsatSlice, Unknown}
-use Rattle.pipeline.specs.Answers.{Leaves, HasNoModel, IsRightAnswer}
+use Rattle.pipeline.specs.Answers.{IsRefuted, Leaves, HasNoModel, IsRightAnswer}
 use Rattle.pipeline.specs.Keyed.{IsKeyed, AreKeyed, IsImpossible}
 use Rattle.pipeline.specs.Asking.{KeyLeaves, IsAsked}
 use Rattle.pipeline.proofs.AskLemmas.{get-last}
@@ -51,8 +50,8 @@ found {X} (x ∷ xs) (suc i) d lt = found xs i d (omega (arith, lt))
 
 -- ---- the verdicts
 
-pub right_unsat : (budget : ℕ) (q : PlainCondition) (keys : List SliceKey) (h : AreKeyed q keys) (parts : List PlainPart) (least : Option ℕ) (values : List ℤ) (i : ℕ) (k : SliceKey) → i < length keys → k ≡ get_or keys i k → IsAsked budget q (take i keys) parts least values → length (take i keys) ≡ i → HasNoPoint k.key → IsRightAnswer budget q (record { verdict = UnsatSlice i; parts = parts ++ Solved ∷ [] })
-right_unsat budget q keys h parts least values i k lt is asked long none = record {
+pub right_unsat : (budget : ℕ) (q : PlainCondition) (keys : List SliceKey) (h : AreKeyed q keys) (parts : List PlainPart) (least : Option ℕ) (values : List ℤ) (i : ℕ) (k : SliceKey) → i < length keys → k ≡ get_or keys i k → IsAsked budget q (take i keys) parts least values → length (take i keys) ≡ i → IsRefuted budget k.key → IsRightAnswer budget q (record { verdict = UnsatSlice i; parts = parts ++ Solved ∷ [] })
+right_unsat budget q keys h parts least values i k lt is asked long refuted = record {
   classes = h.are.classes;
   are = h.are.linked;
   verdict = record {
@@ -60,8 +59,8 @@ right_unsat budget q keys h parts least values i k lt is asked long none = recor
     asked = length_push parts Solved ∙ ap (λ (n : ℕ). n + 1) parts_long;
     before = subst (AllZip (Leaves budget q) (take i h.are.classes)) (sym front) (zip_leaves budget q (take i h.are.classes) (take i keys) parts (zip_take (IsKeyed q) i h.are.classes keys h.each) asked.leaves);
     last = ap (slice_get (parts ++ Solved ∷ [])) (sym parts_long) ∙ get-last parts Solved;
-    refuted = subst (λ (o : Option PlainSlice). IsSomeAnd o (HasNoModel q)) (sym (found h.are.classes i no_slice (omega (arith, lt, zip_length (IsKeyed q) h.are.classes keys h.each)))) (record { key = k.key; is_key = (keyed q keys h i k lt is).is_key; none = none });
-    unsatisfiable = unsat_by_slice q keys h i k lt is none;
+    refuted = subst (λ (o : Option PlainSlice). IsSomeAnd o (HasNoModel budget q)) (sym (found h.are.classes i no_slice (omega (arith, lt, zip_length (IsKeyed q) h.are.classes keys h.each)))) (record { key = k.key; is_key = (keyed q keys h i k lt is).is_key; refuted = refuted });
+    unsatisfiable = unsat_by_slice q keys h i k lt is refuted.none;
   };
 }
   where
@@ -85,7 +84,7 @@ right_sat budget q keys h parts values law fits asked = record {
   verdict = record {
     possible = h.possible;
     holds = sat_by_keys q keys h values law fits (asked.met refl) asked.long;
-    one_each = sym (zip_length (λ (j : SliceKey) (part : PlainPart). KeyLeaves budget j.key part) keys parts asked.leaves) ∙ sym (zip_length (IsKeyed q) h.are.classes keys h.each);
+    left = zip_leaves budget q h.are.classes keys parts h.each asked.leaves;
     solved = asked.first;
   };
 }

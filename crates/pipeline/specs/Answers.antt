@@ -3,7 +3,6 @@ use Rattle.std.specs.Prelude.{◌≡◌, ℕ, ◌+◌, ◌<◌, ℤ, IsSomeAnd, 
 use Rattle.std.specs.List.{All, AllZip, slice_get}
 use Rattle.lin_model.specs.Conditions.{PlainCondition, Holds, IsSatisfiable}
 use Rattle.lin_model.specs.KeyAtom.{PlainKeyAtom}
-use Rattle.lin_model.specs.Key.{KeyHolds, key_width}
 use Rattle.slicer.specs.Slices.{PlainSlice, AreClasses}
 use Rattle.canoniser.specs.Keys.{IsKeyOf}
 use Rattle.canoniser.specs.Solutions.{IsNeverAt}
@@ -12,6 +11,7 @@ use Rattle.refutation.specs.Reading.{HasNoPoint}
 use Rattle.refutation.specs.SearchTree.{any_split, IsOpenTree, room}
 use Rattle.refutation.specs.declared.leaf.LeafTerm.{LeafTerm}
 use Rattle.refutation.specs.declared.node.Node.{Node}
+use Rattle.box_solver.specs.Answer.{IsModelTree, IsRefutingTree}
 use Rattle.box_solver.specs.declared.found.Found.{Found}
 use Rattle.box_solver.specs.declared.found.Found.TheVariants.{Model as FoundModel, Refuted as FoundRefuted, Spent as FoundSpent}
 use Rattle.pipeline.specs.declared.solving.Reply.{Reply}
@@ -24,10 +24,18 @@ use Rattle.pipeline.specs.declared.answer.Plain.{Plain}
 
 -- ---- one key
 
--- one value for each variable of the key, and its atoms hold there
-pub record IsModelOf (key : List PlainKeyAtom) (point : List ℤ) : Type 0 where
-  pub one_each : length point ≡ key_width key
-  pub holds : KeyHolds key point
+-- a search of at most the budget's splits comes to the point, which satisfies the key
+pub record IsModelOf (budget : ℕ) (key : List PlainKeyAtom) (point : List ℤ) : Type 0 where
+  pub nodes : List Node
+  pub terms : List LeafTerm
+  pub tree : IsModelTree key budget point nodes terms
+
+-- a search of at most the budget's splits refutes the key, and no point satisfies it
+pub record IsRefuted (budget : ℕ) (key : List PlainKeyAtom) : Type 0 where
+  pub nodes : List Node
+  pub terms : List LeafTerm
+  pub tree : IsRefutingTree key budget nodes terms
+  pub none : HasNoPoint key
 
 -- the splits of the budget were spent, in the order of the search, and they are fewer than the key has room for
 pub record IsSpentOn (budget : ℕ) (key : List PlainKeyAtom) (tree : PlainTree) : Type 0 where
@@ -36,8 +44,8 @@ pub record IsSpentOn (budget : ℕ) (key : List PlainKeyAtom) (tree : PlainTree)
 
 -- what a reply says of the key
 abbrev pub Replies : ℕ → List PlainKeyAtom → Reply → Type 0
-Replies budget key (Model point) = IsModelOf key point.items
-Replies budget key Refuted = HasNoPoint key
+Replies budget key (Model point) = IsModelOf budget key point.items
+Replies budget key Refuted = IsRefuted budget key
 Replies budget key (Spent tree) = IsSpentOn budget key tree
 
 -- the reply to what was found, where these nodes and terms were added to the region
@@ -49,16 +57,16 @@ reply_to FoundSpent nodes terms = Spent (record { nodes = nodes; terms = terms }
 -- ---- one slice
 
 -- the slice has this key
-pub record HasModel (q : PlainCondition) (slice : PlainSlice) : Type 0 where
+pub record HasModel (budget : ℕ) (q : PlainCondition) (slice : PlainSlice) : Type 0 where
   pub key : List PlainKeyAtom
   pub is_key : IsKeyOf q slice key
   pub point : List ℤ
-  pub model : IsModelOf key point
+  pub model : IsModelOf budget key point
 
-pub record HasNoModel (q : PlainCondition) (slice : PlainSlice) : Type 0 where
+pub record HasNoModel (budget : ℕ) (q : PlainCondition) (slice : PlainSlice) : Type 0 where
   pub key : List PlainKeyAtom
   pub is_key : IsKeyOf q slice key
-  pub none : HasNoPoint key
+  pub refuted : IsRefuted budget key
 
 pub record IsLeftOpen (budget : ℕ) (q : PlainCondition) (slice : PlainSlice) (tree : PlainTree) : Type 0 where
   pub key : List PlainKeyAtom
@@ -67,7 +75,7 @@ pub record IsLeftOpen (budget : ℕ) (q : PlainCondition) (slice : PlainSlice) (
 
 -- what a part says of a slice that isn't found to have no model
 abbrev pub Leaves : ℕ → PlainCondition → PlainSlice → PlainPart → Type 0
-Leaves budget q slice Solved = HasModel q slice
+Leaves budget q slice Solved = HasModel budget q slice
 Leaves budget q slice (Open tree) = IsLeftOpen budget q slice tree
 
 -- ---- a whole query
@@ -90,11 +98,11 @@ pub record IsFirstOpen (parts : List PlainPart) (s : ℕ) : Type 0 where
   pub here : IsSomeAnd (slice_get parts s) IsOpen
   pub before : (i : ℕ) → i < s → slice_get parts i ≡ Some Solved
 
--- values that make the query hold as written, and each slice solved
-pub record IsSat (q : PlainCondition) (classes : List PlainSlice) (values : List ℤ) (parts : List PlainPart) : Type 0 where
+-- values that make the query hold as written; all slices were asked, and each has a model
+pub record IsSat (budget : ℕ) (q : PlainCondition) (classes : List PlainSlice) (values : List ℤ) (parts : List PlainPart) : Type 0 where
   pub possible : NoneIsNever q
   pub holds : Holds q values
-  pub one_each : length parts ≡ length classes
+  pub left : AllZip (Leaves budget q) classes parts
   pub solved : All (λ part. part ≡ Solved) parts
 
 -- the least atom that no integers satisfy, and no slice was asked
@@ -109,7 +117,7 @@ pub record IsUnsatSlice (budget : ℕ) (q : PlainCondition) (classes : List Plai
   pub asked : length parts ≡ s + 1
   pub before : AllZip (Leaves budget q) (take s classes) (take s parts)
   pub last : slice_get parts s ≡ Some Solved
-  pub refuted : IsSomeAnd (slice_get classes s) (HasNoModel q)
+  pub refuted : IsSomeAnd (slice_get classes s) (HasNoModel budget q)
   pub unsatisfiable : ¬ IsSatisfiable q
 
 -- all slices were asked, none was found to have no model, and this is the first that was left open
@@ -119,7 +127,7 @@ pub record IsUnknown (budget : ℕ) (q : PlainCondition) (classes : List PlainSl
   pub first : IsFirstOpen parts s
 
 abbrev pub IsRightVerdict : ℕ → PlainCondition → List PlainSlice → Told → List PlainPart → Type 0
-IsRightVerdict budget q classes (Sat values) parts = IsSat q classes values parts
+IsRightVerdict budget q classes (Sat values) parts = IsSat budget q classes values parts
 IsRightVerdict budget q classes (UnsatAtom j) parts = IsUnsatAtom q j parts
 IsRightVerdict budget q classes (UnsatSlice s) parts = IsUnsatSlice budget q classes s parts
 IsRightVerdict budget q classes (Unknown s) parts = IsUnknown budget q classes s parts

@@ -10,9 +10,9 @@ use Rattle.pipeline.specs.declared.answer.PlainPart.{PlainPart}
 use Rattle.pipeline.specs.declared.answer.PlainPart.TheVariants.{Solved, Open}
 use Rattle.pipeline.specs.Answers.{IsModelOf, IsSpentOn, IsFirstOpen}
 
--- the key has a model, or the splits were spent on it
+-- a search within the budget came to a model of the key, or the splits were spent on it
 abbrev pub KeyLeaves : ℕ → List PlainKeyAtom → PlainPart → Type 0
-KeyLeaves budget key Solved = (point : List ℤ) × IsModelOf key point
+KeyLeaves budget key Solved = (point : List ℤ) × IsModelOf budget key point
 KeyLeaves budget key (Open tree) = IsSpentOn budget key tree
 
 -- the values of the slice's variables satisfy its key

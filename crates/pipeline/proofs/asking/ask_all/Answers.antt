@@ -6,8 +6,7 @@ use Rattle.pipeline.specs.declared.slice_keys.SliceKey.{SliceKey}
 use Rattle.pipeline.specs.declared.answer.PlainPart.{PlainPart}
 use Rattle.pipeline.specs.declared.answer.PlainPart.TheVariants.{Solved}
 use Rattle.pipeline.specs.declared.answer.Told.TheVariants.{Sat, UnsatSlice}
-use Rattle.refutation.specs.Reading.{HasNoPoint}
-use Rattle.pipeline.specs.Answers.{IsModelOf, IsSpentOn, IsRightAnswer, Replies}
+use Rattle.pipeline.specs.Answers.{IsModelOf, IsRefuted, IsSpentOn, IsRightAnswer, Replies}
 use Rattle.pipeline.specs.Asking.{KeyLeaves}
 use Rattle.pipeline.proofs.KeyedLemmas.{front_more}
 use Rattle.pipeline.proofs.AskLemmas.{ask_model, ask_open, few_classes, asked_as, none_if, refilled}
@@ -39,8 +38,8 @@ place-requires-clause-within c = λ n d low. let fits = declared_at c.args.query
 
 pub place-requires-clause-one_each : goal.place-requires-clause-one_each
 place-requires-clause-one_each c =
-    let model : IsModelOf c.index-keys-s.result.key c.in-Model.point.items = subst (Replies c.args.budget c.index-keys-s.result.key) c.in-Model.is (c.in_ok-point.ensures {u = tt}).reply in
-    ap length c.deref.ensures.0 ∙ (model.one_each ∙ (keyed c.args.query.now c.args.keys.now c.requires.keyed c.loop-s.s c.index-keys-s.result c.loop-s-test.true c.index-keys-s.is).width)
+    let model : IsModelOf c.args.budget c.index-keys-s.result.key c.in-Model.point.items = subst (Replies c.args.budget c.index-keys-s.result.key) c.in-Model.is (c.in_ok-point.ensures {u = tt}).reply in
+    ap length c.deref.ensures.0 ∙ (model.tree.one_each ∙ (keyed c.args.query.now c.args.keys.now c.requires.keyed c.loop-s.s c.index-keys-s.result c.loop-s-test.true c.index-keys-s.is).width)
 
 pub returns-in_err-push-in-Model-clause-region : goal.returns-in_err-push-in-Model-clause-region
 returns-in_err-push-in-Model-clause-region c = c.solve_key.ensures.region ∙ c.loop-s.invariant.region
@@ -50,8 +49,8 @@ returns-in_err-push-in-Refuted-clause-region c = c.solve_key.ensures.region ∙ 
 
 pub returns-in-Refuted-clause-answer : goal.returns-in-Refuted-clause-answer
 returns-in-Refuted-clause-answer c =
-    let none : HasNoPoint c.index-keys-s.result.key = subst (Replies c.args.budget c.index-keys-s.result.key) c.in-Refuted.is (c.in_ok-point.ensures {u = tt}).reply in
-    subst (λ (ps : List PlainPart). IsRightAnswer c.args.budget c.args.query.now (record { verdict = UnsatSlice c.loop-s.s; parts = ps })) (sym ((c.in_ok-push-in-Refuted.ensures {u = tt}).ok)) (right_unsat c.args.budget c.args.query.now c.args.keys.now c.requires.keyed c.loop-s.parts c.loop-s.open c.loop-s.values.items c.loop-s.s c.index-keys-s.result c.loop-s-test.true c.index-keys-s.is c.loop-s.invariant.asked (length-take-le c.loop-s.s c.args.keys.now (omega (arith, c.loop-s-test.true))) none)
+    let refuted : IsRefuted c.args.budget c.index-keys-s.result.key = subst (Replies c.args.budget c.index-keys-s.result.key) c.in-Refuted.is (c.in_ok-point.ensures {u = tt}).reply in
+    subst (λ (ps : List PlainPart). IsRightAnswer c.args.budget c.args.query.now (record { verdict = UnsatSlice c.loop-s.s; parts = ps })) (sym ((c.in_ok-push-in-Refuted.ensures {u = tt}).ok)) (right_unsat c.args.budget c.args.query.now c.args.keys.now c.requires.keyed c.loop-s.parts c.loop-s.open c.loop-s.values.items c.loop-s.s c.index-keys-s.result c.loop-s-test.true c.index-keys-s.is c.loop-s.invariant.asked (length-take-le c.loop-s.s c.args.keys.now (omega (arith, c.loop-s-test.true))) refuted)
 
 pub returns-in-Refuted-clause-region : goal.returns-in-Refuted-clause-region
 returns-in-Refuted-clause-region c = c.solve_key.ensures.region ∙ c.loop-s.invariant.region
@@ -73,7 +72,7 @@ loop-s-preserved c =
     record {
       asked = elim c.match-branch-3.branch [
         | in-Model+in_ok-push-in-Model w ↦
-            let model : IsModelOf c.index-keys-s.result.key w.in-Model.point.items = subst (Replies c.args.budget c.index-keys-s.result.key) w.in-Model.is reply in
+            let model : IsModelOf c.args.budget c.index-keys-s.result.key w.in-Model.point.items = subst (Replies c.args.budget c.index-keys-s.result.key) w.in-Model.is reply in
             let old : w.deref_mut.result.now ≡ c.loop-s.values.items = w.deref_mut.ensures.value in
             let same : w.deref.result.now ≡ w.in-Model.point.items = w.deref.ensures.0 in
             let long : length w.place.new.values ≡ length c.loop-s.values.items = w.place.ensures.length ∙ ap length old in
