@@ -37,7 +37,7 @@ pub record IsRefuted (budget : ℕ) (key : List PlainKeyAtom) : Type 0 where
   pub tree : IsRefutingTree key budget nodes terms
   pub none : HasNoPoint key
 
--- the splits of the budget were spent, in the order of the search, and they are fewer than the key has room for
+-- just the splits of the budget were spent, and they are fewer than the key has room for
 pub record IsSpentOn (budget : ℕ) (key : List PlainKeyAtom) (tree : PlainTree) : Type 0 where
   pub open_tree : IsOpenTree any_split key budget tree.nodes tree.terms
   pub below_room : budget < room key
@@ -56,18 +56,20 @@ reply_to FoundSpent nodes terms = Spent (record { nodes = nodes; terms = terms }
 
 -- ---- one slice
 
--- the slice has this key
+-- a search within the budget came to a model of the key of the slice
 pub record HasModel (budget : ℕ) (q : PlainCondition) (slice : PlainSlice) : Type 0 where
   pub key : List PlainKeyAtom
   pub is_key : IsKeyOf q slice key
   pub point : List ℤ
   pub model : IsModelOf budget key point
 
+-- a search within the budget refuted its key
 pub record HasNoModel (budget : ℕ) (q : PlainCondition) (slice : PlainSlice) : Type 0 where
   pub key : List PlainKeyAtom
   pub is_key : IsKeyOf q slice key
   pub refuted : IsRefuted budget key
 
+-- a search spent the budget on its key, and left this tree
 pub record IsLeftOpen (budget : ℕ) (q : PlainCondition) (slice : PlainSlice) (tree : PlainTree) : Type 0 where
   pub key : List PlainKeyAtom
   pub is_key : IsKeyOf q slice key
