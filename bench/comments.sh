@@ -1,6 +1,6 @@
 #!/bin/sh
 # Times how long a query's text of 16 MiB of comments takes to read, and prints the seconds. Asserts nothing.
-# The session is then refused with `fault later`, since a text with comments is not spelled plainly.
+# The session has one query, whose answer it prints.
 set -eu
 cd "$(dirname "$0")/.."
 text=$(mktemp)
