@@ -1,2 +1,3 @@
 mod TableLemmas
+pub mod ImpliedLemmas
 mod Worked

@@ -1,17 +1,15 @@
 -- The table is right: it says yes exactly where each integer that passes the one test passes the other.
-use Rattle.std.proofs.Common.{◌≡◌, ◌≢◌, ℕ, get_or, nat_eq, List, ℤ, pos, ◌+ℤ◌, Bool, true, false, refl, arith, sym, subst, ap, ◌∙◌, ◌⊎◌, inl, inr}
-use Rattle.std.specs.Prelude.{◌≤ℤ◌, ◌<ℤ◌, ◌-ℤ◌, int_le, int_lt, ◌&&◌, IsTrue}
+use Rattle.std.proofs.Common.{◌≡◌, ◌≢◌, ℤ, pos, ◌+ℤ◌, true, refl, arith, sym, ◌∙◌, ◌⊎◌, inl, inr}
+use Rattle.std.specs.Prelude.{◌≤ℤ◌, ◌<ℤ◌, ◌-ℤ◌, int_le, int_lt}
 use Rattle.std.specs.Bool.{Decides}
 use Rattle.std.specs.Ordering.{int_eq}
 use Rattle.std.proofs.lemmas.Int.{ints, by_lt_z}
-use Rattle.std.proofs.lemmas.Bool.Decides.{Decides-int_eq, Decides-eqb, Decides-not}
-use Rattle.lin_model.specs.declared.form.FormTerm.{FormTerm}
+use Rattle.std.proofs.lemmas.Bool.{cases_Bool}
+use Rattle.std.proofs.lemmas.Bool.Decides.{Decides-int_eq, Decides-not}
 use Rattle.lin_model.specs.declared.op.Op.{Op}
 use Rattle.lin_model.specs.declared.op.Op.TheVariants.{Le, Ge, Eq, Ne}
 use Rattle.lin_model.specs.Test.{passes}
-use Rattle.lin_model.specs.KeyAtom.{PlainKeyAtom, KeyAtomHolds}
-use Rattle.lin_model.specs.Form.{form_value}
-use Rattle.atom_implies.specs.Implies.{TestImplies, Implies, HoldsWherever, CoveredKeysHold}
+use Rattle.atom_implies.specs.Implies.{TestImplies}
 use Rattle.atom_implies.specs.Table.{table_says}
 
 Decides-int_le : (a b : ℤ) → Decides (int_le a b) (a ≤ℤ b)
@@ -19,10 +17,6 @@ Decides-int_le a b = (λ so. grind (arith, ints), λ le. grind (arith, ints))
 
 Decides-int_lt : (a b : ℤ) → Decides (int_lt a b) (a <ℤ b)
 Decides-int_lt a b = (λ so. grind (arith, ints), λ lt. grind (arith, ints))
-
-true_or_false : (b : Bool) → (b ≡ true) ⊎ (b ≡ false)
-true_or_false true = inl refl
-true_or_false false = inr refl
 
 -- what it means to pass a test
 abbrev Passes : Op → ℤ → ℤ → Type 0
@@ -43,7 +37,7 @@ Follows op c other d = (n : ℤ) → Passes op c n → Passes other d n
 
 -- two integers are equal or not
 int_tells : (c d : ℤ) → ((c ≡ d) × (int_eq c d ≡ true)) ⊎ (c ≢ d)
-int_tells c d = elim (true_or_false (int_eq c d)) [ inl so ↦ inl ((Decides-int_eq c d).0 so, so) | inr not_so ↦ inr (λ e. let yes = (Decides-int_eq c d).1 e in cc) ]
+int_tells c d = elim (cases_Bool (int_eq c d)) [ inl so ↦ inl ((Decides-int_eq c d).0 so, so) | inr not_so ↦ inr (λ e. let yes = (Decides-int_eq c d).1 e in cc) ]
 
 -- one of two different integers is not c
 one_of_two : {X : Type 0} (c a b : ℤ) → a ≢ b → (a ≢ c → X) → (b ≢ c → X) → X
@@ -127,34 +121,3 @@ table_is_right op c other d =
       λ so n passed. (Decides-passes other d n).1 (right.0 so n ((Decides-passes op c n).0 passed)),
       λ follows. right.1 (λ n passed. (Decides-passes other d n).0 (follows n ((Decides-passes op c n).1 passed))),
     )
-
--- what an atom implies holds wherever it does
-pub HoldsWherever-implied : (a b : PlainKeyAtom) → Implies a b → HoldsWherever a b
-HoldsWherever-implied a b implied point holds =
-    let value = form_value a.form point in
-    subst (λ (form : List FormTerm). IsTrue (passes b.op b.constant (form_value form point))) implied.same_form (implied.tests value holds)
-
-both_true : (a b : Bool) → (a && b) ≡ true → (a ≡ true) × (b ≡ true)
-both_true true b so = (refl, so)
-both_true false b so = absurd (cc)
-
--- what `==` says of two terms
-pub Decides-same_term : (t u : FormTerm) → Decides (nat_eq t.var u.var && int_eq t.coef u.coef) (t ≡ u)
-Decides-same_term t u = (
-  λ so.
-      let both = both_true (nat_eq t.var u.var) (int_eq t.coef u.coef) so in
-      let var : t.var ≡ u.var = (Decides-eqb t.var u.var).0 both.0 in
-      let coef : t.coef ≡ u.coef = (Decides-int_eq t.coef u.coef).0 both.1 in
-      ap (λ (v : ℕ). let x : FormTerm = record { var = v; coef = t.coef } in x) var ∙ ap (λ (z : ℤ). let x : FormTerm = record { var = u.var; coef = z } in x) coef,
-  λ e.
-      let var = (Decides-eqb t.var u.var).1 (ap (λ (x : FormTerm). x.var) e) in
-      let coef = (Decides-int_eq t.coef u.coef).1 (ap (λ (x : FormTerm). x.coef) e) in
-      rw (var, coef) refl,
-)
-
--- what holds a key holds every key that it covers
-pub CoveredKeysHold-lem : CoveredKeysHold
-CoveredKeysHold-lem key query point covers holds k d within =
-    let one = covers k d within in
-    let atom_holds : KeyAtomHolds one.1 point = subst (λ (a : PlainKeyAtom). KeyAtomHolds a point) one.3 (holds one.0 one.1 one.2) in
-    HoldsWherever-implied one.1 (get_or query k d) one.4 point atom_holds

@@ -9,7 +9,7 @@ use Rattle.lin_model.specs.Key.{KeyHolds}
 abbrev pub TestImplies : Op → ℤ → Op → ℤ → Type 0
 TestImplies op c other d = (n : ℤ) → IsTrue (passes op c n) → IsTrue (passes other d n)
 
--- the forms are equal, and every integer that passes the first test passes the second
+-- both have one form, and no integer that passes the first test fails the second
 pub record Implies (a b : PlainKeyAtom) : Type 0 where
   pub same_form : a.form ≡ b.form
   pub tests : TestImplies a.op a.constant b.op b.constant

@@ -7,8 +7,8 @@ use crate::steps::Steps;
 use lin_model::{FormTerm, KeyAtom, Op};
 use std::sync::ledger::Ledger;
 
-/// Whether `a` implies `b`: their forms are equal, and every integer that passes the test of `a` passes that of `b`.
-/// It takes one step. Atoms of different forms never imply each other here, though more could be said of some.
+/// Whether `a` implies `b`: both have one form, and no integer that passes the test of `a` fails that of `b`. It takes
+/// one step. What atoms of different forms say of each other is not looked for: between them the answer is no.
 pub fn implies<L: Ledger>(a: &KeyAtom, b: &KeyAtom, steps: &mut Steps<L>) -> bool
     ensures exact { IsTrue result ↔ Implies a.now b.now }
     ensures carries { IsTrue result → HoldsWherever a.now b.now }
@@ -28,6 +28,7 @@ fn is_implied(a: &KeyAtom, b: &KeyAtom) -> bool
     test_implies(a.op(), a.constant(), b.op(), b.constant())
 }
 
+/// Whether the terms are the same, one by one.
 fn same_terms(a: &[FormTerm], b: &[FormTerm]) -> bool
     ensures { IsTrue result ↔ (a.now ≡ b.now) }
 {

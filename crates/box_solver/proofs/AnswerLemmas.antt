@@ -2,36 +2,39 @@
 use Rattle.std.proofs.Common.{◌≡◌, ℕ, ◌≤◌, ℤ, Bool, true, cond, Some, None, List, [], ◌∷◌, ◌++◌, length, replicate, refl, ap, sym, ◌∙◌, subst, arith}
 use Rattle.std.specs.Option.{IsSomeAnd, option_map_or}
 use Rattle.lin_model.specs.KeyAtom.{PlainKeyAtom}
-use Rattle.lin_model.specs.Key.{KeyHolds}
+use Rattle.lin_model.specs.Key.{KeyHolds, IsKey}
 use Rattle.lin_model.specs.Point.{IsPoint}
+use Rattle.refutation.specs.declared.leaf.LeafTerm.{LeafTerm}
+use Rattle.refutation.specs.declared.node.Node.{Node}
 use Rattle.refutation.specs.declared.node.Node.TheVariants.{Empty, Left}
 use Rattle.refutation.specs.Bounds.{key_bounds, is_empty}
 use Rattle.refutation.specs.Box.{PlainBox}
+use Rattle.refutation.specs.Boxed.{IsBoxed}
+use Rattle.refutation.specs.Laws.{OpenTreesAreBelowRoom}
 use Rattle.refutation.specs.Reading.{Treated, treated, reading, fails_at}
 use Rattle.refutation.specs.SearchOrder.{lowest_corner}
 use Rattle.refutation.specs.SearchTree.{any_split, IsUndecided, Searches, IsOpenTree}
-use Rattle.box_solver.specs.Region.{PlainRegion}
 use Rattle.box_solver.specs.Answer.{IsFirstCorner, IsModelTree, IsRefutingTree, IsSpentTree}
-use Rattle.box_solver.specs.Progress.{HasRead, IsAt}
+use Rattle.box_solver.specs.Progress.{HasRead}
 use Rattle.box_solver.proofs.CornerLemmas.{corner-length}
-use Rattle.box_solver.proofs.StateLemmas.{read-open, read-refutes, below_room}
+use Rattle.box_solver.proofs.StepLemmas.{read-open, read-refutes}
 
-pub model-tree : (key : List PlainKeyAtom) (base region : PlainRegion) (splits budget : ℕ) (boxes : List PlainBox) (box : PlainBox) (rest : List PlainBox) (point : List ℤ) (h : IsAt key base region splits boxes) → boxes ≡ box ∷ rest → splits ≤ budget → point ≡ lowest_corner key box.bounds → IsPoint point → KeyHolds key point → IsModelTree key budget point h.nodes h.terms
-model-tree key base region splits budget boxes box rest point h first few corner limits holds = record {
+pub model-tree : (key : List PlainKeyAtom) (splits budget : ℕ) (nodes : List Node) (terms : List LeafTerm) (boxes : List PlainBox) (box : PlainBox) (rest : List PlainBox) (point : List ℤ) → HasRead key splits nodes terms boxes → boxes ≡ box ∷ rest → splits ≤ budget → point ≡ lowest_corner key box.bounds → IsPoint point → KeyHolds key point → IsModelTree key budget point nodes terms
+model-tree key splits budget nodes terms boxes box rest point h first few corner limits holds = record {
   one_each = ap length corner ∙ corner-length key box.bounds;
   small = limits.small;
   holds = holds;
-  search = h.read.search;
-  no_left = h.read.no_left;
-  few = omega (arith, h.read.inner);
-  corner = subst (λ (bs : List PlainBox). IsFirstCorner key bs point) (sym (h.read.left ∙ first)) corner;
+  search = h.search;
+  no_left = h.no_left;
+  few = omega (arith, h.inner);
+  corner = subst (λ (bs : List PlainBox). IsFirstCorner key bs point) (sym (h.left ∙ first)) corner;
 }
 
-pub refuting-tree : (key : List PlainKeyAtom) (base region : PlainRegion) (splits budget : ℕ) (boxes : List PlainBox) (h : IsAt key base region splits boxes) → boxes ≡ [] → splits ≤ budget → IsRefutingTree key budget h.nodes h.terms
-refuting-tree key base region splits budget boxes h none few = record {
-  refutes = read-refutes key splits h.nodes h.terms (subst (HasRead key splits h.nodes h.terms) none h.read);
-  search = h.read.search;
-  few = omega (arith, h.read.inner);
+pub refuting-tree : (key : List PlainKeyAtom) (splits budget : ℕ) (nodes : List Node) (terms : List LeafTerm) (boxes : List PlainBox) → HasRead key splits nodes terms boxes → boxes ≡ [] → splits ≤ budget → IsRefutingTree key budget nodes terms
+refuting-tree key splits budget nodes terms boxes h none few = record {
+  refutes = read-refutes key splits nodes terms (subst (HasRead key splits nodes terms) none h);
+  search = h.search;
+  few = omega (arith, h.inner);
 }
 
 -- an empty root box is closed at once
@@ -43,10 +46,11 @@ empty-tree key budget empty = record {
   few = omega arith;
 }
 
-pub spent-tree : (key : List PlainKeyAtom) (base region : PlainRegion) (splits budget : ℕ) (boxes : List PlainBox) (box : PlainBox) (rest : List PlainBox) (h : IsAt key base region splits boxes) → boxes ≡ box ∷ rest → splits ≡ budget → IsUndecided any_split key box → IsSpentTree key budget (h.nodes ++ replicate (length boxes) Left) (h.terms ++ [])
-spent-tree key base region splits budget boxes box rest h first spent undecided =
-    let before : HasRead key splits h.nodes h.terms (box ∷ rest) = subst (HasRead key splits h.nodes h.terms) first h.read in
+pub spent-tree : (key : List PlainKeyAtom) (splits budget : ℕ) (nodes : List Node) (terms : List LeafTerm) (boxes : List PlainBox) (box : PlainBox) (rest : List PlainBox) → HasRead key splits nodes terms boxes → boxes ≡ box ∷ rest → splits ≡ budget → IsUndecided any_split key box → IsKey key → IsBoxed key → OpenTreesAreBelowRoom → IsSpentTree key budget (nodes ++ replicate (length boxes) Left) (terms ++ [])
+spent-tree key splits budget nodes terms boxes box rest h first spent undecided is_key boxed law =
+    let before : HasRead key splits nodes terms (box ∷ rest) = subst (HasRead key splits nodes terms) first h in
+    let open_tree : IsOpenTree any_split key budget (nodes ++ replicate (length boxes) Left) (terms ++ []) = subst (λ (bs : List PlainBox). IsOpenTree any_split key budget (nodes ++ replicate (length bs) Left) (terms ++ [])) (sym first) (subst (λ n. IsOpenTree any_split key n (nodes ++ replicate (length (box ∷ rest)) Left) (terms ++ [])) spent (read-open key splits nodes terms box rest before undecided)) in
     record {
-      open_tree = subst (λ (bs : List PlainBox). IsOpenTree any_split key budget (h.nodes ++ replicate (length bs) Left) (h.terms ++ [])) (sym first) (subst (λ n. IsOpenTree any_split key n (h.nodes ++ replicate (length (box ∷ rest)) Left) (h.terms ++ [])) spent (read-open key splits h.nodes h.terms box rest before undecided));
-      below_room = omega (arith, below_room key splits h.nodes h.terms boxes h.read);
+      open_tree = open_tree;
+      below_room = law any_split key budget (nodes ++ replicate (length boxes) Left) (terms ++ []) is_key boxed open_tree;
     }

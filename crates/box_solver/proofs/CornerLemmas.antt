@@ -1,5 +1,6 @@
 -- Where every variable has one value, no atom with one value fails exactly where the corner satisfies the key.
-use Rattle.std.proofs.Common.{◌≡◌, ℕ, zero, suc, ◌<◌, ◌≤◌, ℤ, pos, negsuc, ◌*ℤ◌, ◌≤ℤ◌, ◌<ℤ◌, Bool, true, false, not, ◌&&◌, Option, Some, None, is_some, IsTrue, List, [], ◌∷◌, length, get_or, slice_get, refl, ap, sym, ◌∙◌, arith, int_lt}
+use Rattle.std.proofs.Common.{◌≡◌, ℕ, zero, suc, ◌^◌, ◌<◌, ◌≤◌, ℤ, pos, negsuc, ◌*ℤ◌, ◌≤ℤ◌, ◌<ℤ◌, Bool, true, false, not, ◌&&◌, Option, Some, None, IfSome, is_some, IsTrue, List, [], ◌∷◌, length, get_or, slice_get, unsigned_abs, refl, ap, sym, ◌∙◌, subst, arith, int_lt}
+use Rattle.std.specs.List.{All}
 use Rattle.std.specs.Option.{option_map_or, unwrap_or}
 use Rattle.std.specs.Ordering.{int_eq}
 use Rattle.std.proofs.lemmas.Cmp.{int_eq_equiv}
@@ -9,9 +10,11 @@ use Rattle.lin_model.specs.declared.form.FormTerm.{FormTerm}
 use Rattle.lin_model.specs.Form.{value_at, form_value, form_width}
 use Rattle.lin_model.specs.KeyAtom.{PlainKeyAtom}
 use Rattle.lin_model.specs.Key.{KeyHolds, key_width}
+use Rattle.lin_model.specs.Point.{IsPoint}
 use Rattle.lin_model.specs.Test.{passes}
 use Rattle.refutation.specs.Bounds.{PlainBounds, lower_of, upper_of, crosses, add_known, scaled_side, least, greatest}
 use Rattle.refutation.specs.Box.{PlainBox}
+use Rattle.refutation.specs.Boxed.{HasShortSides}
 use Rattle.refutation.specs.Leaf.{fixed_closes, fails_fixed}
 use Rattle.refutation.specs.SearchOrder.{lowest_corner, lower_or_zero, upper_or_zero, spread}
 use Rattle.box_solver.specs.Halving.{IsWidest}
@@ -49,11 +52,8 @@ pinned-greatest (t ∷ ts) b point h =
 
 -- ---- atoms
 
-int_eq-refl : (n : ℤ) → int_eq n n ≡ true
-int_eq-refl n = int_eq_equiv.refl n
-
 passes-unless_fails : (a : PlainKeyAtom) (n : ℤ) → fails_fixed a (Some n) (Some n) ≡ false → IsTrue (passes a.op a.constant n)
-passes-unless_fails a n h = by_test (int_eq n n) (passes a.op a.constant n) (int_eq-refl n) h
+passes-unless_fails a n h = by_test (int_eq n n) (passes a.op a.constant n) (int_eq_equiv.refl n) h
   where
     by_test : (s t : Bool) → s ≡ true → (s && not t) ≡ false → IsTrue t
     by_test true true e h = refl
@@ -74,6 +74,20 @@ corner-at key b v lt = get_or-map-range_with_len (lower_or_zero b) 0 (key_width 
 pub corner-length : (key : List PlainKeyAtom) (b : PlainBounds) → length (lowest_corner key b) ≡ key_width key
 unfolding lowest_corner
 corner-length key b = length-map-range_with_len (lower_or_zero b) 0 (key_width key)
+
+-- the corner is a point
+corner-small : (key : List PlainKeyAtom) (b : PlainBounds) → HasShortSides b → All (λ n. unsigned_abs n ≤ 2 ^ 32) (lowest_corner key b)
+unfolding lowest_corner
+corner-small key b short k d lt =
+    let within : k < key_width key = omega (arith, length-map-range_with_len (lower_or_zero b) 0 (key_width key)) in
+    subst (λ n. unsigned_abs n ≤ 2 ^ 32) (sym (get_or-map-range_with_len (lower_or_zero b) 0 (key_width key) k k d within (omega arith))) (side (lower_of b k) (short.lower k))
+  where
+    side : (o : Option ℤ) → IfSome o (λ n. unsigned_abs n ≤ 2 ^ 32) → unsigned_abs (unwrap_or o (pos 0)) ≤ 2 ^ 32
+    side None h = omega arith
+    side (Some n) h = h
+
+pub corner-point : (key : List PlainKeyAtom) (b : PlainBounds) → key_width key ≤ 64 → HasShortSides b → IsPoint (lowest_corner key b)
+corner-point key b narrow short = record { few = omega (arith, corner-length key b); small = corner-small key b short }
 
 pinned-holds : (key : List PlainKeyAtom) (b : PlainBounds) → ((v : ℕ) → v < key_width key → Pinned b v (value_at (lowest_corner key b) v)) → ((i : ℕ) → i < length key → fixed_closes key b i ≡ false) → KeyHolds key (lowest_corner key b)
 unfolding fixed_closes

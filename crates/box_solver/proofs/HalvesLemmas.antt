@@ -1,5 +1,5 @@
--- The halves of a box of the search are boxes of the search, and share its points.
-use Rattle.std.proofs.Common.{◌≡◌, ℕ, ◌+◌, ◌^◌, ◌<◌, ◌≤◌, ℤ, pos, ◌+ℤ◌, false, Option, Some, IfSome, List, unsigned_abs, subst, arith}
+-- The halves of a box of the search are boxes of the search.
+use Rattle.std.proofs.Common.{◌≡◌, ℕ, ◌^◌, ◌<◌, ◌≤◌, ℤ, pos, ◌+ℤ◌, false, Option, Some, IfSome, List, unsigned_abs, subst, arith}
 use Rattle.std.proofs.lemmas.Int.{ints}
 use Rattle.lin_model.specs.KeyAtom.{PlainKeyAtom}
 use Rattle.lin_model.specs.Key.{key_width}
@@ -7,10 +7,8 @@ use Rattle.refutation.specs.Bounds.{PlainBounds, lower_of, upper_of, is_empty}
 use Rattle.refutation.specs.Box.{PlainBox, left_half, right_half}
 use Rattle.refutation.specs.Boxed.{HasShortSides}
 use Rattle.refutation.specs.SearchTree.{IsFairSplit}
-use Rattle.refutation.proofs.SplitLemmas.{IsCut, each_upper, each_lower, left-not_empty, right-not_empty, left-boxed, right-boxed, halves-points, points-some}
-use Rattle.box_solver.specs.Progress.{IsSearchBox, points_of}
-
--- ---- both halves are boxes of the search
+use Rattle.refutation.proofs.SplitLemmas.{IsCut, each_upper, each_lower, left-not_empty, right-not_empty, left-boxed, right-boxed}
+use Rattle.box_solver.specs.Progress.{IsSearchBox}
 
 short_at : (o : Option ℤ) (n : ℤ) → o ≡ Some n → IfSome o (λ m. unsigned_abs m ≤ 2 ^ 32) → unsigned_abs n ≤ 2 ^ 32
 short_at o n is h = subst (λ (p : Option ℤ). IfSome p (λ m. unsigned_abs m ≤ 2 ^ 32)) is h
@@ -43,12 +41,3 @@ fair key box v lo hi cut lt h full = record {
   left = left-not_empty box.bounds v lo hi cut h full;
   right = right-not_empty box.bounds v lo hi cut h full;
 }
-
--- ---- points
-
-pub points-shared : (key : List PlainKeyAtom) (box : PlainBox) (v : ℕ) (lo hi cut : ℤ) → v < key_width key → IsCut box.bounds v lo hi cut → points_of key (left_half box v cut) + points_of key (right_half box v cut) ≡ points_of key box
-points-shared key box v lo hi cut lt h = halves-points box.bounds (key_width key) v lo hi cut lt h
-
--- a box that isn't empty has a point
-pub has_point : (key : List PlainKeyAtom) (box : PlainBox) → key_width key ≤ 64 → IsSearchBox key box → 1 ≤ points_of key box
-has_point key box narrow s = points-some key box.bounds narrow s.boxed s.not_empty

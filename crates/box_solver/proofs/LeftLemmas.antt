@@ -1,6 +1,6 @@
 -- Left for each box that is left, one after another.
-use Rattle.std.proofs.Common.{◌≡◌, ℕ, zero, suc, ◌-◌, ◌<◌, ◌≤◌, List, [], ◌∷◌, ◌++◌, replicate, refl, ap, sym, ◌∙◌, subst, arith, append_assoc}
-use Rattle.std.proofs.lemmas.List.{append-nil}
+use Rattle.std.proofs.Common.{◌≡◌, ℕ, ◌+◌, ◌-◌, ◌<◌, ◌≤◌, List, [], ◌∷◌, ◌++◌, replicate, ap, sym, ◌∙◌, subst, arith, append_assoc}
+use Rattle.std.proofs.lemmas.List.{append-nil, replicate-append-replicate}
 use Rattle.refutation.specs.declared.node.Node.{Node}
 use Rattle.refutation.specs.declared.node.Node.TheVariants.{Left}
 use Rattle.box_solver.specs.Region.{PlainRegion, Adds, Grows}
@@ -18,17 +18,13 @@ left-start region all =
       adds = record { nodes_after = sym (append-nil region.nodes) ∙ ap (λ (n : ℕ). region.nodes ++ replicate n Left) none; terms_after = sym (append-nil region.terms) };
     }
 
-replicate-push : (n : ℕ) (node : Node) → replicate n node ++ node ∷ [] ≡ replicate (suc n) node
-replicate-push zero node = refl
-replicate-push (suc n) node = ap (λ (xs : List Node). node ∷ xs) (replicate-push n node)
-
 pub left-more : (old now new : PlainRegion) (all left left' : ℕ) → 0 < left → left' ≡ left - 1 → Adds now new (Left ∷ []) [] → LeftSoFar old now all left → LeftSoFar old new all left'
 left-more old now new all left left' some is adds h =
-    let more : suc (all - left) ≡ all - left' = omega (arith, h.within) in
+    let more : all - left + 1 ≡ all - left' = omega (arith, h.within) in
     record {
       within = omega (arith, h.within);
       adds = record {
-        nodes_after = adds.nodes_after ∙ ap (λ (xs : List Node). xs ++ Left ∷ []) h.adds.nodes_after ∙ append_assoc old.nodes (replicate (all - left) Left) (Left ∷ []) ∙ ap (λ (xs : List Node). old.nodes ++ xs) (replicate-push (all - left) Left) ∙ ap (λ (n : ℕ). old.nodes ++ replicate n Left) more;
+        nodes_after = adds.nodes_after ∙ ap (λ (xs : List Node). xs ++ Left ∷ []) h.adds.nodes_after ∙ append_assoc old.nodes (replicate (all - left) Left) (Left ∷ []) ∙ ap (λ (xs : List Node). old.nodes ++ xs) (replicate-append-replicate (all - left) 1 Left) ∙ ap (λ (n : ℕ). old.nodes ++ replicate n Left) more;
         terms_after = adds.terms_after ∙ append-nil now.terms ∙ h.adds.terms_after;
       };
     }

@@ -2,6 +2,13 @@ pub mod ReadLemmas
 pub mod OneAtomLemmas
 pub mod HalvesLemmas
 pub mod CornerLemmas
+pub mod RegionLemmas
+pub mod StepLemmas
+pub mod MiddleLemmas
 pub mod StateLemmas
 pub mod AnswerLemmas
 pub mod LeftLemmas
+pub mod DecisionLemmas
+pub mod ExistenceLemmas
+pub mod RootLemmas
+pub mod Worked

@@ -1,10 +1,10 @@
 -- Reading more nodes: a search tree goes on where it left boxes.
-use Rattle.std.proofs.Common.{◌≡◌, ℕ, zero, suc, ◌+◌, ◌≤◌, Bool, true, false, cond, ◌&&◌, ◌||◌, Option, Some, None, IfSome, List, [], ◌∷◌, ◌++◌, length, take, drop, replicate, nat_le, refl, ap, sym, ◌∙◌, subst, arith}
+use Rattle.std.proofs.Common.{◌≡◌, ℕ, zero, suc, ◌+◌, ◌≤◌, Bool, true, false, cond, ◌&&◌, Option, Some, None, IfSome, List, [], ◌∷◌, ◌++◌, length, take, drop, replicate, nat_le, refl, ap, sym, ◌∙◌, subst, arith}
 use Rattle.std.specs.Option.{option_map_or, IsSomeAnd}
 use Rattle.std.specs.List.{list_any}
 use Rattle.std.proofs.lemmas.List.{take-append-le, drop-append-le, length-append}
 use Rattle.std.proofs.lemmas.List.Sums.{sum_by-append}
-use Rattle.std.proofs.lemmas.Bool.Decides.{nat_tests}
+use Rattle.std.proofs.lemmas.Bool.{and_parts, or_parts, leb-true, le-leb}
 use Rattle.lin_model.specs.KeyAtom.{PlainKeyAtom}
 use Rattle.refutation.specs.declared.leaf.LeafTerm.{LeafTerm}
 use Rattle.refutation.specs.declared.node.Node.{Node}
@@ -13,7 +13,7 @@ use Rattle.refutation.specs.Bounds.{is_empty}
 use Rattle.refutation.specs.Box.{PlainBox, left_half, right_half, on_side}
 use Rattle.refutation.specs.Leaf.{combo_closes, fixed_closes}
 use Rattle.refutation.specs.Reading.{Treated, treated, is_split, names_ne, reading, refuted, fails_at}
-use Rattle.refutation.proofs.LookUps.{some_and}
+use Rattle.refutation.proofs.LookUps.{chosen, some_and}
 use Rattle.refutation.specs.SearchTree.{Rule, KeepsRule, decided, Searches, boxes_left, is_left, is_inner, inner_count, NoInnerAfterLeft, FirstLeftIsUndecided, IsUndecided}
 
 -- ---- one node, with more terms behind
@@ -29,27 +29,13 @@ chosen-more true boxes terms more r h =
     ap (λ (x : Treated). Some (with_more x more)) same
 chosen-more false boxes terms more r h = absurd (cc)
 
-chosen_true : {X : Type 0} (b : Bool) (v r : X) → cond b (Some v) None ≡ Some r → b ≡ true
-chosen_true true v r h = refl
-chosen_true false v r h = absurd (cc)
-
-and_first : (b c : Bool) → (b && c) ≡ true → b ≡ true
-and_first true c h = refl
-and_first false c h = h
-
-within : (m n : ℕ) → nat_le m n ≡ true → m ≤ n
-within m n h = grind (arith, nat_tests)
-
-is_within : (m n : ℕ) → m ≤ n → nat_le m n ≡ true
-is_within m n h = grind (arith, nat_tests)
-
 -- a combination finds the same terms
 combo-more : (key : List PlainKeyAtom) (box : PlainBox) (count : ℕ) (terms more : List LeafTerm) (r : Treated) → treated key box (Combo count) terms ≡ Some r → treated key box (Combo count) (terms ++ more) ≡ Some (with_more r more)
 unfolding treated
 combo-more key box count terms more r h =
-    let lt : count ≤ length terms = within count (length terms) (and_first _ _ (chosen_true _ _ r h)) in
+    let lt : count ≤ length terms = leb-true count (length terms) (and_parts (nat_le count (length terms)) (combo_closes key box (take count terms)) (chosen (nat_le count (length terms) && combo_closes key box (take count terms)) (record { boxes = []; terms = drop count terms }) r h).0).0 in
     let lt' : count ≤ length (terms ++ more) = omega (arith, length-append terms more) in
-    ap (λ (b : Bool). cond (b && combo_closes key box (take count (terms ++ more))) (Some (record { boxes = []; terms = drop count (terms ++ more) })) None) (is_within count (length (terms ++ more)) lt' ∙ sym (is_within count (length terms) lt)) ∙ ap (λ (ts : List LeafTerm). cond (nat_le count (length terms) && combo_closes key box ts) (Some (record { boxes = []; terms = drop count (terms ++ more) })) None) (take-append-le count terms more lt) ∙ ap (λ (ts : List LeafTerm). cond (nat_le count (length terms) && combo_closes key box (take count terms)) (Some (record { boxes = []; terms = ts })) None) (drop-append-le count terms more lt) ∙ chosen-more (nat_le count (length terms) && combo_closes key box (take count terms)) [] (drop count terms) more r h
+    ap (λ (b : Bool). cond (b && combo_closes key box (take count (terms ++ more))) (Some (record { boxes = []; terms = drop count (terms ++ more) })) None) (le-leb count (length (terms ++ more)) lt' ∙ sym (le-leb count (length terms) lt)) ∙ ap (λ (ts : List LeafTerm). cond (nat_le count (length terms) && combo_closes key box ts) (Some (record { boxes = []; terms = drop count (terms ++ more) })) None) (take-append-le count terms more lt) ∙ ap (λ (ts : List LeafTerm). cond (nat_le count (length terms) && combo_closes key box (take count terms)) (Some (record { boxes = []; terms = ts })) None) (drop-append-le count terms more lt) ∙ chosen-more (nat_le count (length terms) && combo_closes key box (take count terms)) [] (drop count terms) more r h
 
 pub decided-more : (key : List PlainKeyAtom) (box : PlainBox) (node : Node) (terms more : List LeafTerm) (r : Treated) → decided key box node terms ≡ Some r → decided key box node (terms ++ more) ≡ Some (with_more r more)
 unfolding treated
@@ -92,10 +78,6 @@ boxes_left-append rule key (node ∷ nodes) more terms terms' (box ∷ boxes) h 
 
 -- ---- a tree without Left
 
-or_false : (b c : Bool) → (b || c) ≡ false → (b ≡ false) × (c ≡ false)
-or_false true c h = absurd (cc)
-or_false false c h = (refl, h)
-
 -- a node other than Left decides a box as it treats it
 treats : (key : List PlainKeyAtom) (box : PlainBox) (node : Node) (terms : List LeafTerm) → is_left node ≡ false → decided key box node terms ≡ treated key box node terms
 treats key box (Split v cut) terms h = refl
@@ -113,7 +95,7 @@ refuted-from_search rule key i [] terms boxes h no_left left =
 refuted-from_search rule key i (node ∷ nodes) terms [] h no_left left = absurd h
 refuted-from_search rule key i (node ∷ nodes) terms (box ∷ boxes) h no_left left =
     let on = some_and (decided key box node terms) (λ (r : Treated). Searches rule key nodes r.terms (r.boxes ++ boxes)) h.1 in
-    let none = or_false (is_left node) (list_any is_left nodes) no_left in
+    let none = or_parts (is_left node) (list_any is_left nodes) no_left in
     ap (λ (o : Option Treated). option_map_or (λ (r : Treated). reading key (suc i) nodes r.terms (r.boxes ++ boxes)) o (fails_at i)) (sym (treats key box node terms none.0) ∙ on.1) ∙ refuted-from_search rule key (suc i) nodes on.0.terms (on.0.boxes ++ boxes) on.2 none.1 (sym (left-step key node nodes terms box boxes on.0 on.1) ∙ left)
 
 -- ---- Left behind a tree without Left
@@ -139,7 +121,7 @@ first_left-append rule key [] more terms terms' boxes box rest h no_left left un
 first_left-append rule key (node ∷ nodes) more terms terms' [] box rest h no_left left undecided = absurd h
 first_left-append rule key (node ∷ nodes) more terms terms' (first ∷ boxes) box rest h no_left left undecided =
     let on = some_and (decided key first node terms) (λ (r : Treated). Searches rule key nodes r.terms (r.boxes ++ boxes)) h.1 in
-    let none = or_false (is_left node) (list_any is_left nodes) no_left in
+    let none = or_parts (is_left node) (list_any is_left nodes) no_left in
     first_left-step rule key node (nodes ++ Left ∷ more) (terms ++ terms') first boxes (with_more on.0 terms') none.0 (sym (treats key first node (terms ++ terms') none.0) ∙ decided-more key first node terms terms' on.0 on.1) (first_left-append rule key nodes more on.0.terms terms' (on.0.boxes ++ boxes) box rest on.2 none.1 (sym (left-step key node nodes terms first boxes on.0 on.1) ∙ left) undecided)
 
 -- ---- Left for each box
@@ -168,5 +150,5 @@ lefts-last (suc n) = (λ _. lefts-inner n, lefts-last n)
 pub NoInnerAfterLeft-append : (nodes : List Node) (n : ℕ) → list_any is_left nodes ≡ false → NoInnerAfterLeft (nodes ++ replicate n Left)
 NoInnerAfterLeft-append [] n h = lefts-last n
 NoInnerAfterLeft-append (node ∷ nodes) n h =
-    let none = or_false (is_left node) (list_any is_left nodes) h in
+    let none = or_parts (is_left node) (list_any is_left nodes) h in
     (λ is. absurd (cc), NoInnerAfterLeft-append nodes n none.1)

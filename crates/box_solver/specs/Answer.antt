@@ -13,7 +13,7 @@ use Rattle.box_solver.specs.declared.found.Found.{Found}
 use Rattle.box_solver.specs.declared.found.Found.TheVariants.{Model, Refuted, Spent}
 use Rattle.box_solver.specs.Region.{PlainRegion, Adds}
 
--- the point is the lowest corner of the first of the boxes
+-- there is a first box, and this point is its lowest corner
 abbrev pub IsFirstCorner : List PlainKeyAtom → List PlainBox → List ℤ → Type 0
 IsFirstCorner key [] point = ⊥
 IsFirstCorner key (box ∷ boxes) point = point ≡ lowest_corner key box.bounds

@@ -3,3 +3,4 @@ pub mod OneAtom
 pub mod Halving
 pub mod Progress
 pub mod Answer
+pub mod Laws

@@ -14,11 +14,12 @@ use Rattle.box_solver.specs.declared.one_atom.OneAtom.TheVariants.{Term, Fixed}
 abbrev pub unit_term : ℕ → ℤ → LeafTerm
 unit_term i factor = record { on = OnAtom i; factor = factor }
 
--- the node of what closes a box by one atom, and the terms that it takes
+-- the node of what closes a box by one atom
 abbrev pub node_by : OneAtom → Node
 node_by (Term term) = ComboNode 1
 node_by (Fixed i) = FixedNode i
 
+-- the terms that this node takes
 abbrev pub terms_by : OneAtom → List LeafTerm
 terms_by (Term term) = term ∷ []
 terms_by (Fixed i) = []
@@ -38,13 +39,15 @@ pub record NoUnitCloses (key : List PlainKeyAtom) (box : PlainBox) (i : ℕ) : T
   pub positive : combo_closes key box (unit_term i (pos 1) ∷ []) ≡ false
   pub negative : combo_closes key box (unit_term i (negsuc 0) ∷ []) ≡ false
 
--- no atom does so, and none has one value that fails
+-- no atom closes the box so
 abbrev pub NoTermCloses : List PlainKeyAtom → PlainBox → Type 0
 NoTermCloses key box = (i : ℕ) → i < length key → NoUnitCloses key box i
 
+-- no atom has one value in the box, which fails its test
 abbrev pub NoFixedCloses : List PlainKeyAtom → PlainBox → Type 0
 NoFixedCloses key box = (i : ℕ) → i < length key → fixed_closes key box.bounds i ≡ false
 
+-- no atom closes the box in either way
 pub record NoAtomCloses (key : List PlainKeyAtom) (box : PlainBox) : Type 0 where
   pub no_term : NoTermCloses key box
   pub no_fixed : NoFixedCloses key box

@@ -1,14 +1,14 @@
 -- How far a search has come.
-use Rattle.std.specs.Prelude.{◌≡◌, ℕ, ◌+◌, ◌≤◌, false, List, [], ◌∷◌, length}
-use Rattle.std.specs.List.{All, list_any, range_with_len}
+use Rattle.std.specs.Prelude.{◌≡◌, ℕ, ◌≤◌, false, List, [], ◌∷◌}
+use Rattle.std.specs.List.{All, list_any}
 use Rattle.lin_model.specs.KeyAtom.{PlainKeyAtom}
 use Rattle.lin_model.specs.Key.{key_width}
 use Rattle.refutation.specs.declared.leaf.LeafTerm.{LeafTerm}
 use Rattle.refutation.specs.declared.node.Node.{Node}
 use Rattle.refutation.specs.Bounds.{is_empty}
-use Rattle.refutation.specs.Box.{PlainBox, root_box}
+use Rattle.refutation.specs.Box.{PlainBox}
 use Rattle.refutation.specs.Boxed.{IsBoxedIn, HasShortSides}
-use Rattle.refutation.specs.SearchTree.{any_split, IsUndecided, IsSearchTree, undecided_boxes, inner_count, is_left, points_over}
+use Rattle.refutation.specs.SearchTree.{any_split, IsUndecided, IsSearchTree, undecided_boxes, inner_count, is_left}
 use Rattle.box_solver.specs.Region.{PlainRegion, Adds}
 
 -- what each box of a search keeps
@@ -18,15 +18,7 @@ pub record IsSearchBox (key : List PlainKeyAtom) (box : PlainBox) : Type 0 where
   pub boxed : IsBoxedIn key box.bounds
   pub short : HasShortSides box.bounds
 
--- how many points of the key's variables lie in the box, and in all of the boxes
-abbrev pub points_of : List PlainKeyAtom → PlainBox → ℕ
-points_of key box = points_over box.bounds (range_with_len 0 (key_width key))
-
-abbrev pub points_in : List PlainKeyAtom → List PlainBox → ℕ
-points_in key [] = 0
-points_in key (box ∷ boxes) = points_of key box + points_in key boxes
-
--- the nodes and terms are a search tree with this many splits, without Left, that leaves these boxes; each closed box had a point
+-- the nodes and terms are a search tree with this many splits, without Left, that leaves these boxes
 pub record HasRead (key : List PlainKeyAtom) (splits : ℕ) (nodes : List Node) (terms : List LeafTerm) (boxes : List PlainBox) : Type 0 where
   pub narrow : key_width key ≤ 64
   pub search : IsSearchTree any_split key nodes terms
@@ -34,7 +26,6 @@ pub record HasRead (key : List PlainKeyAtom) (splits : ℕ) (nodes : List Node) 
   pub inner : inner_count nodes ≡ splits
   pub no_left : list_any is_left nodes ≡ false
   pub fit : All (IsSearchBox key) boxes
-  pub closed : points_in key boxes + splits + 1 ≤ points_of key (root_box key) + length boxes
 
 -- the region has behind its base such nodes and terms
 pub record IsAt (key : List PlainKeyAtom) (base region : PlainRegion) (splits : ℕ) (boxes : List PlainBox) : Type 0 where

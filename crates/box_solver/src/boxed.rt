@@ -6,7 +6,7 @@ ghost use Rattle.refutation.specs.Boxed.{HasBothSides, IsBoxed};
 use lin_model::Key;
 use refutation::Bounds;
 
-/// Whether every variable below the key's width has both a lower and an upper side in the key's bounds.
+/// Whether a key's bounds hold each of its variables from below and from above.
 pub fn is_boxed(key: &Key) -> bool
     ensures { IsTrue result ↔ IsBoxed key.now }
 {
@@ -27,6 +27,7 @@ fn have_sides(bounds: &Bounds, width: u8) -> bool
     true
 }
 
+/// Whether the variable has both sides.
 fn has_sides(bounds: &Bounds, var: u8) -> bool
     requires { var < 64 }
     ensures { IsTrue result ↔ HasBothSides bounds.now var }

@@ -5,6 +5,7 @@ mod boxed;
 mod corner;
 mod found;
 mod halving;
+mod laws;
 mod one_atom;
 mod region;
 mod search;
@@ -13,5 +14,6 @@ mod tests;
 
 pub use boxed::is_boxed;
 pub use found::Found;
+pub use laws::{answers_exist, corner_is_answer};
 pub use region::{Mark, TreeRegion};
 pub use search::solve;

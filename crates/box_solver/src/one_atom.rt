@@ -60,6 +60,7 @@ fn closing_unit(key: &Key, walk: &Walk, number: u16) -> Option<LeafTerm>
     None
 }
 
+/// The term of this atom with this factor.
 fn unit_term(number: u16, factor: i64) -> LeafTerm
     ensures { result ≡ unit_term number factor }
 {

@@ -2,12 +2,14 @@
 
 ghost use Rattle.std.specs.Prelude.{◌≡◌, ◌≤◌, ◌<◌, ◌+◌, [], ◌∷◌, ℕ, List, length, IfOk, OnOk, IfErr, OnErr, MatchResult, replicate};
 ghost use Rattle.lin_model.specs.KeyAtom.{PlainKeyAtom};
+ghost use Rattle.lin_model.specs.Key.{key_width};
 ghost use Rattle.refutation.specs.declared.node.Node.TheVariants.{Left};
 ghost use Rattle.refutation.specs.Box.{PlainBox};
 ghost use Rattle.refutation.specs.Boxed.{IsBoxed};
 ghost use Rattle.refutation.specs.SearchTree.{any_split, IsUndecided};
 ghost use Rattle.box_solver.specs.Region.{PlainRegion, Adds, Grows};
 ghost use Rattle.box_solver.specs.OneAtom.{ClosesBy, node_by, terms_by};
+ghost use Rattle.box_solver.specs.Halving.{AddsHalving};
 ghost use Rattle.box_solver.specs.Progress.{IsAt, FirstIsSplit};
 ghost use Rattle.box_solver.specs.Answer.{Answers};
 
@@ -18,7 +20,7 @@ use crate::one_atom::{OneAtom, closing_atom};
 use crate::region::TreeRegion;
 use lin_model::Key;
 use outside::NoMemory;
-use refutation::{Node, Walk};
+use refutation::{Node, Walk, open_trees_are_below_room};
 use std::alloc::Global;
 
 /// Searches for a point that satisfies the key, with at most `budget` splits, and appends the search's tree to the region.
@@ -66,6 +68,7 @@ fn search(alloc: Global, key: &Key, budget: u32, region: &mut TreeRegion) -> Res
                     return Ok(Found::Model(values_of(&corner)));
                 }
                 if splits == budget {
+                    open_trees_are_below_room();
                     leave_open(&mut walk, region)?;
                     return Ok(Found::Spent);
                 }
@@ -108,6 +111,8 @@ fn halve(key: &Key, walk: &mut Walk, region: &mut TreeRegion) -> Result<(), NoMe
     requires { FirstIsSplit key.now walk.old }
     ensures at { (base : PlainRegion) (splits : ℕ) → IsAt key.now base region.old splits walk.old
         → OnOk result (IsAt key.now base region.new (splits + 1) walk.new × (length walk.new ≡ length walk.old + 1)) }
+    ensures halving { (box : PlainBox) (rest : List PlainBox) → walk.old ≡ box ∷ rest
+        → OnOk result (AddsHalving box.bounds (key_width key.now) region.old region.new) }
     ensures grows { Grows region.old region.new }
 {
     let var = widest(walk.bounds(), key.width());

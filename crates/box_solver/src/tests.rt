@@ -1,5 +1,8 @@
 //! Worked searches, by hand.
 
+ghost use Rattle.std.specs.Prelude.{IfOk};
+ghost use Rattle.refutation.specs.Boxed.{IsBoxed};
+
 use crate::{Found, TreeRegion, is_boxed, solve};
 use lin_model::{Form, FormTerm, Key, KeyAtom, Op};
 use refutation::{LeafTerm, Node, On, refutes};
@@ -22,8 +25,26 @@ fn atom(alloc: Global, terms: &[FormTerm], op: Op, constant: i64) -> Result<KeyA
     Ok(KeyAtom::new(form, op, constant).ok_or("not canonical")?)
 }
 
+/// The key of these atoms, which are in order and hold each variable from both sides.
+fn boxed(atoms: Vec<KeyAtom>) -> Result<Key, Fail>
+    ensures { IfOk result (λ key. IsBoxed key) }
+{
+    match Key::of(atoms) {
+        Ok(key) => {
+            if is_boxed(&key) {
+                Ok(key)
+            } else {
+                Err(Fail::from("not boxed"))
+            }
+        }
+        Err(_) => Err(Fail::from("out of order")),
+    }
+}
+
 /// `v0 - v1 <= -1`, and where both are asked `v0 - v1 >= 1`, over `low` to `high`.
-fn apart(alloc: Global, low: i64, high: i64, both: bool) -> Result<Key, Fail> {
+fn apart(alloc: Global, low: i64, high: i64, both: bool) -> Result<Key, Fail>
+    ensures { IfOk result (λ key. IsBoxed key) }
+{
     let mut atoms = Vec::new(alloc);
     atoms.push(atom(alloc, &FIRST, Op::Le, high)?)?;
     atoms.push(atom(alloc, &FIRST, Op::Ge, low)?)?;
@@ -33,12 +54,10 @@ fn apart(alloc: Global, low: i64, high: i64, both: bool) -> Result<Key, Fail> {
     }
     atoms.push(atom(alloc, &SECOND, Op::Le, high)?)?;
     atoms.push(atom(alloc, &SECOND, Op::Ge, low)?)?;
-    match Key::of(atoms) {
-        Ok(key) => Ok(key),
-        Err(_) => Err(Fail::from("out of order")),
-    }
+    boxed(atoms)
 }
 
+/// The atom of this number, once.
 fn on_atom(number: u16) -> LeafTerm {
     LeafTerm {
         on: On::Atom(number),
@@ -50,9 +69,6 @@ fn on_atom(number: u16) -> LeafTerm {
 fn one_split_over_wide_bounds_leaves_both_halves(rt: HostRuntime) -> Result<(), Fail> {
     let alloc = rt.alloc();
     let key = apart(alloc, LEAST, GREATEST, true)?;
-    if !is_boxed(&key) {
-        return Err(Fail::from("not boxed"));
-    }
     let mut region = TreeRegion::reserve(alloc, 1)?;
     let found = solve(alloc, &key, 1, &mut region)?;
     assert!(rt; matches!(&found, Found::Spent));
@@ -66,9 +82,6 @@ fn one_split_over_wide_bounds_leaves_both_halves(rt: HostRuntime) -> Result<(), 
 fn a_split_refutes_two_values_each(rt: HostRuntime) -> Result<(), Fail> {
     let alloc = rt.alloc();
     let key = apart(alloc, 0, 1, true)?;
-    if !is_boxed(&key) {
-        return Err(Fail::from("not boxed"));
-    }
     let mut region = TreeRegion::reserve(alloc, 4)?;
     let found = solve(alloc, &key, 4, &mut region)?;
     assert!(rt; matches!(&found, Found::Refuted));
@@ -90,9 +103,6 @@ fn a_split_refutes_two_values_each(rt: HostRuntime) -> Result<(), Fail> {
 fn the_first_corner_that_satisfies_the_key_is_the_model(rt: HostRuntime) -> Result<(), Fail> {
     let alloc = rt.alloc();
     let key = apart(alloc, 0, 1, false)?;
-    if !is_boxed(&key) {
-        return Err(Fail::from("not boxed"));
-    }
     let mut region = TreeRegion::reserve(alloc, 4)?;
     let mark = region.mark();
     match solve(alloc, &key, 4, &mut region)? {
@@ -114,9 +124,6 @@ fn the_first_corner_that_satisfies_the_key_is_the_model(rt: HostRuntime) -> Resu
 fn a_large_budget_is_spent(rt: HostRuntime) -> Result<(), Fail> {
     let alloc = rt.alloc();
     let key = apart(alloc, LEAST, GREATEST, true)?;
-    if !is_boxed(&key) {
-        return Err(Fail::from("not boxed"));
-    }
     let mut region = TreeRegion::reserve(alloc, 100_000)?;
     let found = solve(alloc, &key, 100_000, &mut region)?;
     assert!(rt; matches!(&found, Found::Spent));

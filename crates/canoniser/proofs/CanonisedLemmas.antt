@@ -2,21 +2,22 @@
 use Rattle.std.proofs.Common.{◌≡◌, ◌↔◌, ◌⊎◌, ℕ, ◌≤◌, ℤ, List, length, get_or, refl, sym, subst, inl, inr}
 use Rattle.std.specs.List.{All, Any, Contains}
 use Rattle.std.proofs.lemmas.List.Elements.{All-contains, Contains-get_or}
-use Rattle.lin_model.specs.Conditions.{PlainCondition, Fits}
+use Rattle.lin_model.specs.Conditions.{PlainCondition}
 use Rattle.lin_model.specs.declared.atom.Atom.{Atom}
 use Rattle.lin_model.specs.Truth.{AtomHolds}
 use Rattle.lin_model.specs.Form.{form_width}
 use Rattle.lin_model.specs.KeyAtom.{PlainKeyAtom, KeyAtomHolds}
 use Rattle.atom_implies.specs.Laws.{TableIsRight}
+use Rattle.slicer.specs.Laws.{HasNamed}
 use Rattle.slicer.specs.Slices.{PlainSlice}
 use Rattle.canoniser.specs.Forms.{always, never, says, ComesTo}
 use Rattle.canoniser.specs.Numbering.{atoms_of, order_of}
-use Rattle.canoniser.specs.Keys.{IsSliceIn, IsGiven, IsStrongest, IsKeyOf}
+use Rattle.canoniser.specs.Keys.{IsGiven, IsStrongest, IsKeyOf}
 use Rattle.canoniser.specs.Strongest.{IsKeyWithBounds, IsOneOf}
 use Rattle.canoniser.specs.Solutions.{point_of, HaveSameSolutions, IsCanonised}
 use Rattle.canoniser.specs.Said.{AreSaid, ArePossible}
-use Rattle.canoniser.proofs.KeyLemmas.{bound_holds, covered_holds, KeepsBounds-covered, key_width-order, IsBounded-covered}
-use Rattle.canoniser.proofs.SliceLemmas.{HasNamed-slice}
+use Rattle.canoniser.proofs.KeyLemmas.{bound_holds, covered_holds, KeepsBounds-covered}
+use Rattle.canoniser.proofs.KeyWidthLemmas.{key_width-order, IsBounded-covered}
 use Rattle.canoniser.proofs.MeaningLemmas.{says-holds, always-holds}
 use Rattle.canoniser.proofs.CanonicalLemmas.{one-outcome, says-narrow}
 use Rattle.canoniser.proofs.NumberingLemmas.{order_of-distinct, order_of-vars, order_of-names}
@@ -101,14 +102,14 @@ canonical_narrow order atoms canonical said k d lt =
     let any = said.only k d lt in
     says-narrow order any.1 (get_or canonical k d) any.4
 
-IsCanonised-of : TableIsRight → (c : PlainCondition) (s : PlainSlice) (canonical key : List PlainKeyAtom) → Fits c.vars c.atoms → IsSliceIn c s → ArePossible c s canonical → IsKeyWithBounds c (order_of c s) canonical key → IsCanonised c s (order_of c s) key
-IsCanonised-of right c s canonical key fits one possible is =
+IsCanonised-of : TableIsRight → (c : PlainCondition) (s : PlainSlice) (canonical key : List PlainKeyAtom) → HasNamed c s → ArePossible c s canonical → IsKeyWithBounds c (order_of c s) canonical key → IsCanonised c s (order_of c s) key
+IsCanonised-of right c s canonical key named possible is =
     let order = order_of c s in
     let width = key_width-order c order canonical key is (canonical_narrow order (atoms_of c s) canonical possible.said) in
     record {
       possible = possible.possible;
       numbered = refl;
-      vars = order_of-vars c s (HasNamed-slice c s fits.in_range one);
+      vars = order_of-vars c s named;
       is_key = IsKeyOf-made c s canonical key possible.said is;
       width = width;
       same = HaveSameSolutions-made c s canonical key possible.said is;
@@ -116,6 +117,6 @@ IsCanonised-of right c s canonical key fits one possible is =
       bounded = IsBounded-covered right c order canonical key is width;
     }
 
-pub IsCanonised-made : TableIsRight → (c : PlainCondition) (s : PlainSlice) (order : List ℕ) (canonical key : List PlainKeyAtom) → Fits c.vars c.atoms → IsSliceIn c s → order ≡ order_of c s → ArePossible c s canonical → IsKeyWithBounds c order canonical key → IsCanonised c s order key
-IsCanonised-made right c s order canonical key fits one numbered possible is =
-    subst (λ (o : List ℕ). IsCanonised c s o key) (sym numbered) (IsCanonised-of right c s canonical key fits one possible (subst (λ (o : List ℕ). IsKeyWithBounds c o canonical key) numbered is))
+pub IsCanonised-made : TableIsRight → (c : PlainCondition) (s : PlainSlice) (order : List ℕ) (canonical key : List PlainKeyAtom) → HasNamed c s → order ≡ order_of c s → ArePossible c s canonical → IsKeyWithBounds c order canonical key → IsCanonised c s order key
+IsCanonised-made right c s order canonical key named numbered possible is =
+    subst (λ (o : List ℕ). IsCanonised c s o key) (sym numbered) (IsCanonised-of right c s canonical key named possible (subst (λ (o : List ℕ). IsKeyWithBounds c o canonical key) numbered is))

@@ -1,21 +1,15 @@
 -- Implication is an order on canonical atoms, and what lists of them cover.
-use Rattle.std.proofs.Common.{◌≡◌, ℕ, ◌<◌, ◌+◌, List, [], ◌∷◌, ◌++◌, length, take, get_or, ℤ, refl, sym, ap, ◌∙◌, subst, inl, inr, ◌≤◌, arith, Bool, true, false}
-use Rattle.std.specs.Prelude.{IsTrue, ◌&&◌, nat_eq}
-use Rattle.std.specs.Bool.{Decides}
-use Rattle.std.specs.Ordering.{int_eq}
+use Rattle.std.proofs.Common.{◌≡◌, ℕ, ◌<◌, ◌+◌, List, [], ◌∷◌, ◌++◌, length, take, get_or, ℤ, refl, sym, ap, ◌∙◌, subst, inl, inr, ◌≤◌, arith, true}
 use Rattle.std.specs.List.{Any, AllPairs, Contains}
 use Rattle.std.proofs.lemmas.Int.{ints}
 use Rattle.std.proofs.lemmas.List.{get_or_default}
 use Rattle.std.proofs.lemmas.List.Elements.{Contains-get_or, Contains-append_left, Contains-push, All-weaker, All-more, All-contains}
 use Rattle.std.proofs.lemmas.List.Quantifiers.{all_pairs_push}
 use Rattle.std.proofs.lemmas.Bool.{cases_lt}
-use Rattle.std.proofs.lemmas.Bool.Decides.{Decides-int_eq, Decides-eqb, eqb_tells}
-use Rattle.lin_model.specs.declared.form.FormTerm.{FormTerm}
+use Rattle.std.proofs.lemmas.Bool.Decides.{Decides-int_eq, eqb_tells}
 use Rattle.lin_model.specs.declared.op.Op.{Op}
 use Rattle.lin_model.specs.declared.op.Op.TheVariants.{Le, Ge, Eq, Ne}
-use Rattle.lin_model.specs.Form.{form_value}
-use Rattle.lin_model.specs.Test.{passes}
-use Rattle.lin_model.specs.KeyAtom.{PlainKeyAtom, KeyAtomHolds}
+use Rattle.lin_model.specs.KeyAtom.{PlainKeyAtom}
 use Rattle.atom_implies.specs.Implies.{Implies, Covers}
 use Rattle.atom_implies.specs.Table.{table_says}
 use Rattle.atom_implies.specs.Laws.{TableIsRight}
@@ -48,11 +42,6 @@ Implies-antisym right a b one two =
     let op : a.op ≡ b.op = tests.0 in
     let constant : a.constant ≡ b.constant = tests.1 in
     λ i. record { form = form i; op = op i; constant = constant i }
-
--- what an atom implies holds where the atom does
-pub implied_holds : (a b : PlainKeyAtom) (point : List ℤ) → Implies a b → KeyAtomHolds a point → KeyAtomHolds b point
-implied_holds a b point implied holds =
-    subst (λ (form : List FormTerm). IsTrue (passes b.op b.constant (form_value form point))) implied.same_form (implied.tests (form_value a.form point) holds)
 
 pub Implies-refl : (a : PlainKeyAtom) → Implies a a
 Implies-refl a = record { same_form = refl; tests = λ n so. so }
@@ -118,18 +107,3 @@ IsCovered-not_before atoms x other n here read at_end behind differs covered =
         | inr other_place ↦ (let ne = other_place.1 in behind i by (omega arith) covered.2 implied)
       ]
     ]
-
-both_true : (a b : Bool) → (a && b) ≡ true → (a ≡ true) × (b ≡ true)
-both_true true b so = (refl, so)
-both_true false b so = absurd (cc)
-
--- what `==` says of two terms
-pub Decides-term : (t u : FormTerm) → Decides (nat_eq t.var u.var && int_eq t.coef u.coef) (t ≡ u)
-Decides-term t u = (
-  λ so.
-      let both = both_true (nat_eq t.var u.var) (int_eq t.coef u.coef) so in
-      let var : t.var ≡ u.var = (Decides-eqb t.var u.var).0 both.0 in
-      let coef : t.coef ≡ u.coef = (Decides-int_eq t.coef u.coef).0 both.1 in
-      λ i. record { var = var i; coef = coef i },
-  λ same. rw ((Decides-eqb t.var u.var).1 (ap (λ (x : FormTerm). x.var) same), (Decides-int_eq t.coef u.coef).1 (ap (λ (x : FormTerm). x.coef) same)) refl,
-)

@@ -2,16 +2,18 @@
 use Rattle.std.proofs.Common.{◌≡◌, ◌⊎◌, ℕ, ◌<◌, List, [], ◌∷◌, ◌++◌, length, get_or, Bool, true, if◌then◌else◌, refl, sym, ap, ◌∙◌, subst, inl, inr, arith}
 use Rattle.std.specs.List.{All, Any, Contains, filter, flat_map}
 use Rattle.std.proofs.lemmas.List.Elements.{Contains-append_cases, Contains-get_or, All-contains, filter_passes}
+use Rattle.std.proofs.lemmas.Bool.{cases_Bool}
 use Rattle.lin_model.specs.Conditions.{PlainCondition}
 use Rattle.lin_model.specs.declared.atom.Atom.{Atom}
 use Rattle.slicer.specs.Names.{Names, atom_vars, NamesNothingAt}
 use Rattle.slicer.specs.Linked.{Chain, alone, longer}
+use Rattle.slicer.specs.Laws.{HasNamed}
 use Rattle.slicer.specs.Slices.{PlainSlice, IsSliceOf, IsFront, least}
+use Rattle.slicer.proofs.ElementLemmas.{Contains-first, Contains-later, Contains-cases, nil_from_none}
 use Rattle.canoniser.specs.Numbering.{first_ones, atoms_of, order_of}
 use Rattle.canoniser.specs.Keys.{IsSliceIn}
-use Rattle.canoniser.proofs.SideLemmas.{Contains-cases, Contains-head, Contains-behind}
-use Rattle.canoniser.proofs.SliceLemmas.{NamesDeclared, only}
-use Rattle.canoniser.proofs.SelectLemmas.{true_or_false, is_among, is_among-tells, belongs, belongs-tells, NamesOne, Selects-slice, atoms_of-selected}
+use Rattle.canoniser.proofs.SliceLemmas.{only}
+use Rattle.canoniser.proofs.SelectLemmas.{is_among, is_among-tells, belongs, belongs-tells, NamesOne, Selects-slice, atoms_of-selected}
 use Rattle.canoniser.proofs.NumberingLemmas.{Contains-flat_map, Source-flat_map}
 use Rattle.canoniser.proofs.RepeatLemmas.{first_ones-known}
 
@@ -19,20 +21,16 @@ use Rattle.canoniser.proofs.RepeatLemmas.{first_ones-known}
 abbrev pub named : List Atom → List ℕ
 named atoms = flat_map atom_vars atoms
 
-pub nothing_from_none : (xs : List ℕ) → ((x : ℕ) → ¬ Contains xs x) → xs ≡ []
-nothing_from_none [] none = refl
-nothing_from_none (x ∷ xs) none = absurd (none x (Contains-head x xs))
-
 -- an element that passes stays
 Contains-passing : (p : Atom → Bool) (xs : List Atom) (x : Atom) → p x ≡ true → Contains xs x → Contains (filter p xs) x
 Contains-passing p [] x passes has = absurd (omega (arith, has.1))
 Contains-passing p (y ∷ ys) x passes has = elim (Contains-cases y ys x has) [
   | inl here ↦ (
       let kept : p y ≡ true = ap p here ∙ passes in
-      subst (λ (b : Bool). Contains (if b then y ∷ filter p ys else filter p ys) x) (sym kept) (subst (Contains (y ∷ filter p ys)) here (Contains-head y (filter p ys)))
+      subst (λ (b : Bool). Contains (if b then y ∷ filter p ys else filter p ys) x) (sym kept) (subst (Contains (y ∷ filter p ys)) here (Contains-first y (filter p ys)))
       )
-  | inr later ↦ elim (true_or_false (p y)) [
-    | inl kept ↦ subst (λ (b : Bool). Contains (if b then y ∷ filter p ys else filter p ys) x) (sym kept) (Contains-behind y (filter p ys) x (Contains-passing p ys x passes later))
+  | inr later ↦ elim (cases_Bool (p y)) [
+    | inl kept ↦ subst (λ (b : Bool). Contains (if b then y ∷ filter p ys else filter p ys) x) (sym kept) (Contains-later y (filter p ys) x (Contains-passing p ys x passes later))
     | inr gone ↦ subst (λ (b : Bool). Contains (if b then y ∷ filter p ys else filter p ys) x) (sym gone) (Contains-passing p ys x passes later)
   ]
 ]
@@ -77,7 +75,7 @@ AreNamed-class : (c : PlainCondition) (var : ℕ) (s : PlainSlice) → atoms_of 
 AreNamed-class c var s selected is =
     let all = named (atoms_of c s) in
     let has_var : Contains s.vars var = (is.vars.just var).1 (is.declared, alone) in
-    elim (true_or_false (is_among all var)) [
+    elim (cases_Bool (is_among all var)) [
       | inl is_named ↦ inl (λ v has. elim (last_named c var v ((is.vars.just v).0 has).1) [
         | inl same ↦ subst (Contains all) same ((is_among-tells all var).0 is_named)
         | inr any ↦ named_by c s v selected has any
@@ -93,7 +91,7 @@ AreNamed-class c var s selected is =
             var = var;
             has = has_var;
             no_other = no_other;
-            unnamed = nothing_from_none all (λ w has.
+            unnamed = nil_from_none all (λ w has.
                 let source = Source-flat_map atom_vars (atoms_of c s) w has in
                 let one = names_one c s source.element selected (omega (arith, has_var.1)) source.among in
                 missing (Contains-flat_map atom_vars (atoms_of c s) source.element var source.among (subst (Names source.element) (no_other one.0 one.1) one.2)));
@@ -108,13 +106,13 @@ AreNamed-front c (slice ∷ []) s is has =
     λ v there. let no_more = subst (λ (vs : List ℕ). Contains vs v) none there in absurd (omega (arith, no_more.1))
 AreNamed-front c (slice ∷ another ∷ more) s is has = absurd is
 
-pub named_or_alone : (c : PlainCondition) (s : PlainSlice) → NamesDeclared c → IsSliceIn c s → AreNamed c s ⊎ IsAlone c s
-named_or_alone c s declared one =
+pub named_or_alone : (c : PlainCondition) (s : PlainSlice) → HasNamed c s → IsSliceIn c s → AreNamed c s ⊎ IsAlone c s
+named_or_alone c s has_named one =
     let all = one.all in
     let has : Contains (all.front ++ all.classes) s = rw all.joined at one.one in
     elim (Contains-append_cases all.front all.classes s has) [
       | inl in_front ↦ inl (AreNamed-front c all.front s all.variable_free in_front)
-      | inr in_classes ↦ AreNamed-class c (least s) s (atoms_of-selected c s (Selects-slice c s declared one)) (All-contains (λ slice. IsSliceOf c (least slice) slice) all.classes s all.linked.each in_classes)
+      | inr in_classes ↦ AreNamed-class c (least s) s (atoms_of-selected c s (Selects-slice c s has_named one)) (All-contains (λ slice. IsSliceOf c (least slice) slice) all.classes s all.linked.each in_classes)
     ]
 
 -- the order where the atoms name all variables, and where there is one alone
@@ -125,11 +123,11 @@ order_of-named c s are = first_ones-known (named (atoms_of c s)) s.vars (λ k d 
 pub first_ones-single : (xs : List ℕ) (x : ℕ) → Contains xs x → ((y : ℕ) → Contains xs y → y ≡ x) → first_ones xs ≡ x ∷ []
 first_ones-single [] x has same = absurd (omega (arith, has.1))
 first_ones-single (y ∷ ys) x has same =
-    let first : y ≡ x = same y (Contains-head y ys) in
+    let first : y ≡ x = same y (Contains-first y ys) in
     let known : All (Contains (y ∷ [])) ys = λ k d lt.
     let z = get_or ys k d in
-    let is : z ≡ x = same z (Contains-behind y ys z (Contains-get_or ys k d lt)) in
-    subst (Contains (y ∷ [])) (first ∙ sym is) (Contains-head y [])
+    let is : z ≡ x = same z (Contains-later y ys z (Contains-get_or ys k d lt)) in
+    subst (Contains (y ∷ [])) (first ∙ sym is) (Contains-first y [])
     in
     first_ones-known (y ∷ []) ys known ∙ ap (λ (v : ℕ). v ∷ []) first
 

@@ -12,18 +12,19 @@ use Rattle.lin_model.specs.declared.atom.Atom.{Atom}
 use Rattle.slicer.specs.Names.{atom_vars, Names}
 use Rattle.slicer.specs.Slices.{PlainSlice}
 use Rattle.slicer.specs.Laws.{HasNamed}
+use Rattle.slicer.proofs.ElementLemmas.{Contains-first, Contains-later, Contains-cases}
 use Rattle.canoniser.specs.Numbering.{first_ones, atoms_of, order_of}
 use Rattle.canoniser.specs.Keys.{IsSliceIn}
 use Rattle.canoniser.proofs.GainsLemmas.{others}
 use Rattle.canoniser.proofs.SliceLemmas.{IsWithin-slice}
-use Rattle.canoniser.proofs.SideLemmas.{Contains-head, Contains-behind, Contains-cases, distinct-tail}
+use Rattle.canoniser.proofs.SideLemmas.{distinct-tail}
 
 -- ---- which numbers the first ones are
 
 -- what stays in a list that loses x
 Contains-kept : (kept : Bool) (y : ℕ) (rest : List ℕ) (v : ℕ) → (y ≡ v → kept ≡ true) → (y ≡ v) ⊎ Contains rest v → Contains (if kept then y ∷ rest else rest) v
 Contains-kept true y rest v same has =
-    elim has [ inl first ↦ subst (Contains (y ∷ rest)) first (Contains-head y rest) | inr behind ↦ Contains-behind y rest v behind ]
+    elim has [ inl first ↦ subst (Contains (y ∷ rest)) first (Contains-first y rest) | inr behind ↦ Contains-later y rest v behind ]
 Contains-kept false y rest v same has = elim has [ inl first ↦ absurd (let e = same first in cc) | inr behind ↦ behind ]
 
 Contains-others : (x : ℕ) (xs : List ℕ) (v : ℕ) → v ≢ x → Contains xs v → Contains (others x xs) v
@@ -44,14 +45,14 @@ Contains-first_ones [] v = (λ has. has, λ has. has)
 Contains-first_ones (x ∷ numbers) v =
     let rest = Contains-first_ones numbers v in (
       λ has. elim (Contains-cases x (others x (first_ones numbers)) v has) [
-        | inl first ↦ subst (Contains (x ∷ numbers)) first (Contains-head x numbers)
-        | inr behind ↦ Contains-behind x numbers v (rest.0 (Contains-from_others x (first_ones numbers) v behind))
+        | inl first ↦ subst (Contains (x ∷ numbers)) first (Contains-first x numbers)
+        | inr behind ↦ Contains-later x numbers v (rest.0 (Contains-from_others x (first_ones numbers) v behind))
       ],
       λ has. elim (Contains-cases x numbers v has) [
-        | inl first ↦ subst (Contains (x ∷ others x (first_ones numbers))) first (Contains-head x (others x (first_ones numbers)))
+        | inl first ↦ subst (Contains (x ∷ others x (first_ones numbers))) first (Contains-first x (others x (first_ones numbers)))
         | inr behind ↦ elim (eqb_tells v x) [
-          | inl same ↦ subst (Contains (x ∷ others x (first_ones numbers))) (sym same.1) (Contains-head x (others x (first_ones numbers)))
-          | inr other ↦ Contains-behind x (others x (first_ones numbers)) v (Contains-others x (first_ones numbers) v other.1 (rest.1 behind))
+          | inl same ↦ subst (Contains (x ∷ others x (first_ones numbers))) (sym same.1) (Contains-first x (others x (first_ones numbers)))
+          | inr other ↦ Contains-later x (others x (first_ones numbers)) v (Contains-others x (first_ones numbers) v other.1 (rest.1 behind))
         ]
       ],
     )
@@ -103,8 +104,8 @@ pub Source-flat_map : {X A : Type 0} (f : X → List A) (xs : List X) (a : A) �
 Source-flat_map f [] a has = absurd (omega (arith, has.1))
 Source-flat_map f (y ∷ ys) a has =
     elim (Contains-append_cases (f y) (flat_map f ys) a has) [
-      | inl here ↦ record { element = y; among = Contains-head y ys; piece = here }
-      | inr later ↦ let rest = Source-flat_map f ys a later in record { element = rest.element; among = Contains-behind y ys rest.element rest.among; piece = rest.piece }
+      | inl here ↦ record { element = y; among = Contains-first y ys; piece = here }
+      | inr later ↦ let rest = Source-flat_map f ys a later in record { element = rest.element; among = Contains-later y ys rest.element rest.among; piece = rest.piece }
     ]
 
 -- some element gives it
@@ -115,11 +116,11 @@ pub record Given {X Y : Type 0} (h : X → Option Y) (xs : List X) (y : Y) : Typ
 
 one_given : {X Y : Type 0} (h : X → Option Y) (x : X) (xs : List X) (y : Y) (o : Option Y) → h x ≡ o → (Contains (filter_map h xs) y → Given h xs y) → Contains (cons_option o (filter_map h xs)) y → Given h (x ∷ xs) y
 one_given h x xs y None is rest has =
-    let later = rest has in record { element = later.element; among = Contains-behind x xs later.element later.among; gives = later.gives }
+    let later = rest has in record { element = later.element; among = Contains-later x xs later.element later.among; gives = later.gives }
 one_given h x xs y (Some z) is rest has =
     elim (Contains-cases z (filter_map h xs) y has) [
-      | inl same ↦ record { element = x; among = Contains-head x xs; gives = is ∙ ap Some same }
-      | inr behind ↦ let later = rest behind in record { element = later.element; among = Contains-behind x xs later.element later.among; gives = later.gives }
+      | inl same ↦ record { element = x; among = Contains-first x xs; gives = is ∙ ap Some same }
+      | inr behind ↦ let later = rest behind in record { element = later.element; among = Contains-later x xs later.element later.among; gives = later.gives }
     ]
 
 pub Given-filter_map : {X Y : Type 0} (h : X → Option Y) (xs : List X) (y : Y) → Contains (filter_map h xs) y → Given h xs y

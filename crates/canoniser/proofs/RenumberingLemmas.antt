@@ -13,16 +13,19 @@ use Rattle.lin_model.specs.KeyAtom.{PlainKeyAtom}
 use Rattle.lin_model.specs.declared.op.Op.TheVariants.{Le, Ge}
 use Rattle.lin_model.specs.Bounded.{variable}
 use Rattle.slicer.specs.Names.{atom_vars}
+use Rattle.slicer.specs.Laws.{HasNamed, SlicesPartition}
+use Rattle.slicer.specs.Names.{NamesDeclared}
 use Rattle.slicer.specs.Slices.{PlainSlice}
 use Rattle.canoniser.specs.Forms.{never, says, ComesTo}
 use Rattle.canoniser.specs.Numbering.{first_ones, atoms_of, order_of}
 use Rattle.canoniser.specs.Keys.{IsSliceIn, IsBound, IsGiven, upper_atom, lower_atom}
-use Rattle.canoniser.specs.Laws.{HaveSameBounds, IsOneToOne, RenumberingKeepsKeys, renumbered}
-use Rattle.canoniser.proofs.Lookups.{Found-at, Found-from, IsSomeAnd-found}
-use Rattle.canoniser.proofs.SliceLemmas.{NamesDeclared, IsWithin-slice, HasNamed-slice}
+use Rattle.canoniser.specs.Laws.{HaveSameBounds, IsOneToOne, IsRenumbered, RenumberingKeepsKeys, renumbered}
+use Rattle.slicer.proofs.ElementLemmas.{nil_from_none}
+use Rattle.slicer.proofs.Lookups.{Found-at, Found-from, IsSomeAnd-found}
+use Rattle.canoniser.proofs.SliceLemmas.{IsWithin-slice, HasNamed-slice}
 use Rattle.canoniser.proofs.SelectLemmas.{belongs, belongs-tells, belongs-nothing, Selects-slice, atoms_of-selected}
 use Rattle.canoniser.proofs.NumberingLemmas.{Contains-first_ones, order_of-below}
-use Rattle.canoniser.proofs.NamedLemmas.{named, nothing_from_none, AreNamed, named_or_alone, order_of-named, order_of-alone}
+use Rattle.canoniser.proofs.NamedLemmas.{named, AreNamed, named_or_alone, order_of-named, order_of-alone}
 use Rattle.canoniser.proofs.RenumberedLemmas.{apart, ComesTo-renumbered, ComesTo-from_renumbered, atom_vars-renumbered, renumbered-back, atoms-back, AtomNamesBelow-renumbered}
 use Rattle.canoniser.proofs.SameKeyLemmas.{IsDefined, HaveSameKeys-given}
 
@@ -37,6 +40,8 @@ pub record Renumbers (c : PlainCondition) (s : PlainSlice) (d : PlainCondition) 
   pub atoms : d.atoms ≡ map (renumbered f) c.atoms
   pub slice : IsSliceIn c s
   pub other_slice : IsSliceIn d t
+  pub has_named : HasNamed c s
+  pub other_has_named : HasNamed d t
   pub vars : (v : ℕ) → Contains s.vars v → Contains t.vars (f v)
   pub other_vars : (w : ℕ) → Contains t.vars w → Contains s.vars (g w)
 
@@ -56,12 +61,11 @@ Renumbers-back c s d t n f g are = record {
   atoms = sym (ap (map (renumbered g)) are.atoms ∙ atoms-back n f g are.one c.atoms are.declared);
   slice = are.other_slice;
   other_slice = are.slice;
+  has_named = are.other_has_named;
+  other_has_named = are.has_named;
   vars = are.other_vars;
   other_vars = are.vars;
 }
-
-NamesDeclared-of : (c : PlainCondition) (n : ℕ) → length c.vars ≡ n → All (AtomNamesBelow n) c.atoms → NamesDeclared c
-NamesDeclared-of c n count declared = subst (λ (m : ℕ). All (AtomNamesBelow m) c.atoms) (sym count) declared
 
 Contains-map : {X Y : Type 0} (f : X → Y) (xs : List X) (x : X) → Contains xs x → Contains (map f xs) (f x)
 Contains-map f xs x has = (has.0, omega (arith, has.1, length-map xs f), get_or-map f xs has.0 x (f x) has.1 ∙ ap f has.2)
@@ -74,7 +78,7 @@ empty_or_some (x ∷ xs) = inr (omega arith)
 belongs-renumbered : (c : PlainCondition) (s : PlainSlice) (d : PlainCondition) (t : PlainSlice) (n : ℕ) (f g : ℕ → ℕ) → Renumbers c s d t n f g → (x : Atom) → belongs s.vars x ≡ true → belongs t.vars (renumbered f x) ≡ true
 belongs-renumbered c s d t n f g are x passes = elim (empty_or_some s.vars) [
   | inl none ↦ (
-      let other_none : t.vars ≡ [] = nothing_from_none t.vars (λ w has. let there = subst (λ (vs : List ℕ). Contains vs (g w)) none (are.other_vars w has) in omega (arith, there.1)) in
+      let other_none : t.vars ≡ [] = nil_from_none t.vars (λ w has. let there = subst (λ (vs : List ℕ). Contains vs (g w)) none (are.other_vars w has) in omega (arith, there.1)) in
       (belongs-nothing t.vars (renumbered f x) other_none).1 (atom_vars-renumbered f x ∙ ap (map f) ((belongs-nothing s.vars x none).0 passes))
       )
   | inr some ↦ (
@@ -106,8 +110,8 @@ same_bool false false to from = refl
 atoms_of-renumbered : (c : PlainCondition) (s : PlainSlice) (d : PlainCondition) (t : PlainSlice) (n : ℕ) (f g : ℕ → ℕ) → Renumbers c s d t n f g → atoms_of d t ≡ map (renumbered f) (atoms_of c s)
 atoms_of-renumbered c s d t n f g are =
     let again = Renumbers-back c s d t n f g are in
-    let first = atoms_of-selected c s (Selects-slice c s (NamesDeclared-of c n are.count are.declared) are.slice) in
-    let second = atoms_of-selected d t (Selects-slice d t (NamesDeclared-of d n again.count again.declared) are.other_slice) in
+    let first = atoms_of-selected c s (Selects-slice c s are.has_named are.slice) in
+    let second = atoms_of-selected d t (Selects-slice d t are.other_has_named are.other_slice) in
     let agree : All (λ x. belongs t.vars (renumbered f x) ≡ belongs s.vars x) c.atoms = λ k e lt.
     let x = get_or c.atoms k e in
     let same = renumbered-back n f g are.one x (are.declared k e lt) in
@@ -138,25 +142,24 @@ first_ones-renumbered n f g one (x ∷ xs) within =
     ∙ ap (λ (ys : List ℕ). f x ∷ ys) (filter-map_agree (λ w. not (w == f x)) (λ w. not (w == x)) f (first_ones xs) agree)
 
 -- what atoms of the slice name is below n
-named_within : (c : PlainCondition) (s : PlainSlice) (n : ℕ) → length c.vars ≡ n → NamesDeclared c → IsSliceIn c s → All (λ v. v < n) (named (atoms_of c s))
-named_within c s n count declared one k e lt =
+named_within : (c : PlainCondition) (s : PlainSlice) (n : ℕ) → length c.vars ≡ n → HasNamed c s → IsSliceIn c s → All (λ v. v < n) (named (atoms_of c s))
+named_within c s n count has_named one k e lt =
     let all = named (atoms_of c s) in
     let v = get_or all k e in
     let in_order : Contains (order_of c s) v = (Contains-first_ones (all ++ s.vars) v).1 (Contains-append_left all s.vars v (Contains-get_or all k e lt)) in
-    let below = order_of-below c s (HasNamed-slice c s declared one) one v in_order in
+    let below = order_of-below c s has_named one v in_order in
     omega arith
 
 -- the order of the slice's variables is the same, under their other numbers
 order_of-renumbered : (c : PlainCondition) (s : PlainSlice) (d : PlainCondition) (t : PlainSlice) (n : ℕ) (f g : ℕ → ℕ) → Renumbers c s d t n f g → order_of d t ≡ map f (order_of c s)
 order_of-renumbered c s d t n f g are =
     let all = named (atoms_of c s) in
-    let declared = NamesDeclared-of c n are.count are.declared in
     let again : named (atoms_of d t) ≡ map f all = ap named (atoms_of-renumbered c s d t n f g are) ∙ named-renumbered f (atoms_of c s) in
     let is_back : (w : ℕ) → Contains t.vars w → f (g w) ≡ w = λ w has. are.back.back w (let lt = (IsWithin-slice d t are.other_slice).vars w has in let count = are.other_count in omega arith) in
-    elim (named_or_alone c s declared are.slice) [
+    elim (named_or_alone c s are.has_named are.slice) [
       | inl are_named ↦ (
           let other_named : AreNamed d t = λ w has. subst (λ (vs : List ℕ). Contains vs w) (sym again) (subst (Contains (map f all)) (is_back w has) (Contains-map f all (g w) (are_named (g w) (are.other_vars w has)))) in
-          order_of-named d t other_named ∙ ap first_ones again ∙ first_ones-renumbered n f g are.one all (named_within c s n are.count declared are.slice) ∙ ap (map f) (sym (order_of-named c s are_named))
+          order_of-named d t other_named ∙ ap first_ones again ∙ first_ones-renumbered n f g are.one all (named_within c s n are.count are.has_named are.slice) ∙ ap (map f) (sym (order_of-named c s are_named))
           )
       | inr alone ↦ (
           let u = alone.var in
@@ -195,13 +198,13 @@ IsBound-renumbered c s d t n f g are order a within bound =
 order_within : (c : PlainCondition) (s : PlainSlice) (d : PlainCondition) (t : PlainSlice) (n : ℕ) (f g : ℕ → ℕ) → Renumbers c s d t n f g → All (λ v. v < n) (order_of c s)
 order_within c s d t n f g are k e lt =
     let v = get_or (order_of c s) k e in
-    let below = order_of-below c s (HasNamed-slice c s (NamesDeclared-of c n are.count are.declared) are.slice) are.slice v (Contains-get_or (order_of c s) k e lt) in
+    let below = order_of-below c s are.has_named are.slice v (Contains-get_or (order_of c s) k e lt) in
     let count = are.count in
     omega arith
 
 atoms_below : (c : PlainCondition) (s : PlainSlice) (d : PlainCondition) (t : PlainSlice) (n : ℕ) (f g : ℕ → ℕ) → Renumbers c s d t n f g → All (AtomNamesBelow n) (atoms_of c s)
 atoms_below c s d t n f g are =
-    let selected = atoms_of-selected c s (Selects-slice c s (NamesDeclared-of c n are.count are.declared) are.slice) in
+    let selected = atoms_of-selected c s (Selects-slice c s are.has_named are.slice) in
     subst (λ (atoms : List Atom). All (AtomNamesBelow n) atoms) (sym selected) (All-filter (belongs s.vars) (AtomNamesBelow n) c.atoms are.declared)
 
 IsGiven-renumbered : (c : PlainCondition) (s : PlainSlice) (d : PlainCondition) (t : PlainSlice) (n : ℕ) (f g : ℕ → ℕ) → Renumbers c s d t n f g → (a : PlainKeyAtom) → IsGiven c s a → IsGiven d t a
@@ -230,8 +233,15 @@ IsDefined-renumbered c s d t n f g are defined =
     let x = get_or (atoms_of c s) k e in
     defined k e lt (ComesTo-from_renumbered n f g are.one (order_of c s) x never within (atoms_below c s d t n f g are k e lt) (subst (λ (o : List ℕ). ComesTo o (renumbered f x) never) order comes))))
 
-pub RenumberingKeepsKeys-lem : RenumberingKeepsKeys
-RenumberingKeepsKeys-lem c d s t f g fits one back is slice other_slice same =
+-- what the second condition's atoms name is declared there
+NamesDeclared-renumbered : (c d : PlainCondition) (f g : ℕ → ℕ) → NamesDeclared c → IsOneToOne (length c.vars) f g → IsRenumbered f c d → NamesDeclared d
+NamesDeclared-renumbered c d f g declared one is =
+    let n = length c.vars in
+    let below : All (AtomNamesBelow n) d.atoms = subst (All (AtomNamesBelow n)) (sym is.atoms) (AtomNamesBelow-renumbered n f g one c.atoms declared) in
+    subst (λ (m : ℕ). All (AtomNamesBelow m) d.atoms) (sym is.count) below
+
+pub RenumberingKeepsKeys-lem : SlicesPartition → RenumberingKeepsKeys
+RenumberingKeepsKeys-lem parts c d s t f g fits one back is slice other_slice same =
     let n = length c.vars in
     let are : Renumbers c s d t n f g = record {
       one = one;
@@ -243,6 +253,8 @@ RenumberingKeepsKeys-lem c d s t f g fits one back is slice other_slice same =
       atoms = is.atoms;
       slice = slice;
       other_slice = other_slice;
+      has_named = HasNamed-slice parts c s fits.in_range slice;
+      other_has_named = HasNamed-slice parts d t (NamesDeclared-renumbered c d f g fits.in_range one is) other_slice;
       vars = λ v has. (same v ((IsWithin-slice c s slice).vars v has)).0 has;
       other_vars = λ w has.
           let lt : w < n = let below = (IsWithin-slice d t other_slice).vars w has in let count = is.count in omega arith in

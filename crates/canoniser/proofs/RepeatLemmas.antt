@@ -4,18 +4,20 @@ use Rattle.std.specs.List.{All, Contains, filter, flat_map}
 use Rattle.std.proofs.lemmas.List.{take_more, drop_more, take-append-drop}
 use Rattle.std.proofs.lemmas.List.Concat.{flat_map-append}
 use Rattle.std.proofs.lemmas.List.Elements.{filter-append, All-append, All-take, All-drop, Contains-append_left, Contains-append_right, Contains-append_cases, All-contains_itself, All-weaker, All-head, All-tail}
+use Rattle.std.proofs.lemmas.Bool.{cases_Bool}
 use Rattle.lin_model.specs.Conditions.{PlainCondition, AtomNamesBelow}
 use Rattle.lin_model.specs.declared.atom.Atom.{Atom}
-use Rattle.slicer.specs.Names.{atom_vars}
+use Rattle.slicer.specs.Names.{atom_vars, NamesDeclared}
+use Rattle.slicer.specs.Laws.{HasNamed, SlicesPartition}
 use Rattle.slicer.specs.Slices.{PlainSlice}
 use Rattle.canoniser.specs.Numbering.{first_ones, atoms_of, Gains}
 use Rattle.canoniser.specs.Keys.{IsSliceIn}
 use Rattle.canoniser.specs.Laws.{repeated, RepeatingKeepsKeys}
 use Rattle.canoniser.proofs.GainsLemmas.{Gains-known, Gains-new, Gains-none, Gains-more}
 use Rattle.canoniser.proofs.NumberingLemmas.{Contains-first_ones}
-use Rattle.canoniser.proofs.Lookups.{Found-at}
-use Rattle.canoniser.proofs.SliceLemmas.{NamesDeclared}
-use Rattle.canoniser.proofs.SelectLemmas.{true_or_false, is_among, is_among-tells, belongs, Selects-slice, atoms_of-selected}
+use Rattle.slicer.proofs.Lookups.{Found-at}
+use Rattle.canoniser.proofs.SliceLemmas.{HasNamed-slice}
+use Rattle.canoniser.proofs.SelectLemmas.{is_among, is_among-tells, belongs, Selects-slice, atoms_of-selected}
 use Rattle.canoniser.proofs.SameKeyLemmas.{AreAlike, HaveSameKeys-alike}
 
 -- what a list with the first ones of some numbers becomes with more numbers
@@ -25,7 +27,7 @@ record Gained (old more : List ℕ) : Type 0 where
 
 gained : (old more : List ℕ) → Gained old more
 gained old [] = record { new = old; gains = Gains-none old }
-gained old (v ∷ more) = elim (true_or_false (is_among old v)) [
+gained old (v ∷ more) = elim (cases_Bool (is_among old v)) [
   | inl known ↦ (
       let rest = gained old more in
       record { new = rest.new; gains = Gains-more old old rest.new (v ∷ []) more (v ∷ more) refl (Gains-known old v known) rest.gains }
@@ -113,16 +115,16 @@ NamesDeclared-repeated c i declared =
     let P : Atom → Type 0 = AtomNamesBelow (length c.vars) in
     All-append P (take (i + 1) c.atoms) (drop i c.atoms) (All-take P (i + 1) c.atoms declared) (All-drop P i c.atoms declared)
 
-AreAlike-repeated : (c : PlainCondition) (i : ℕ) (s t : PlainSlice) → NamesDeclared c → i < length c.atoms → IsSliceIn c s → IsSliceIn (repeated i c) t → s.vars ≡ t.vars → AreAlike c s (repeated i c) t
-AreAlike-repeated c i s t declared lt one two same =
+AreAlike-repeated : (c : PlainCondition) (i : ℕ) (s t : PlainSlice) → HasNamed c s → HasNamed (repeated i c) t → i < length c.atoms → IsSliceIn c s → IsSliceIn (repeated i c) t → s.vars ≡ t.vars → AreAlike c s (repeated i c) t
+AreAlike-repeated c i s t named_in_s named_in_t lt one two same =
     let d = (Found-at c.atoms i lt).value in
     let p = belongs s.vars in
     let front = filter p (take i c.atoms) in
     let again = filter p (get_or c.atoms i d ∷ []) in
     let back = filter p (drop (i + 1) c.atoms) in
-    let once : atoms_of c s ≡ front ++ (again ++ back) = atoms_of-selected c s (Selects-slice c s declared one) ∙ filter-once p c.atoms i d lt in
+    let once : atoms_of c s ≡ front ++ (again ++ back) = atoms_of-selected c s (Selects-slice c s named_in_s one) ∙ filter-once p c.atoms i d lt in
     let twice : atoms_of (repeated i c) t ≡ (front ++ again) ++ (again ++ back) =
-    atoms_of-selected (repeated i c) t (Selects-slice (repeated i c) t (NamesDeclared-repeated c i declared) two)
+    atoms_of-selected (repeated i c) t (Selects-slice (repeated i c) t named_in_t two)
     ∙ ap (λ (vars : List ℕ). filter (belongs vars) (take (i + 1) c.atoms ++ drop i c.atoms)) (sym same)
     ∙ filter-twice p c.atoms i d lt
     in
@@ -140,5 +142,8 @@ AreAlike-repeated c i s t declared lt one two same =
           );
     }
 
-pub RepeatingKeepsKeys-lem : RepeatingKeepsKeys
-RepeatingKeepsKeys-lem c i s t fits lt one two same = HaveSameKeys-alike c s (repeated i c) t (AreAlike-repeated c i s t fits.in_range lt one two same)
+pub RepeatingKeepsKeys-lem : SlicesPartition → RepeatingKeepsKeys
+RepeatingKeepsKeys-lem parts c i s t fits lt one two same =
+    let named_in_s = HasNamed-slice parts c s fits.in_range one in
+    let named_in_t = HasNamed-slice parts (repeated i c) t (NamesDeclared-repeated c i fits.in_range) two in
+    HaveSameKeys-alike c s (repeated i c) t (AreAlike-repeated c i s t named_in_s named_in_t lt one two same)

@@ -15,7 +15,7 @@ use Rattle.slicer.specs.Slices.{PlainSlice}
 use Rattle.canoniser.specs.Forms.{always, says, ComesTo}
 use Rattle.canoniser.specs.Solutions.{IsNever, IsNeverAt, IsFirstNever}
 use Rattle.canoniser.specs.Said.{AreSaid}
-use Rattle.canoniser.proofs.Lookups.{IsSomeAnd-found}
+use Rattle.slicer.proofs.Lookups.{IsSomeAnd-found}
 
 -- the atoms of these numbers
 abbrev pub atoms_at : PlainCondition → List ℕ → List Atom

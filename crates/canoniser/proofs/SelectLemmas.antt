@@ -1,23 +1,25 @@
 -- The atoms of a slice are those of the condition that belong to its variables.
-use Rattle.std.proofs.Common.{◌≡◌, ◌↔◌, ◌⊎◌, ℕ, suc, ◌+◌, ◌<◌, ◌≤◌, List, [], ◌∷◌, ◌++◌, length, drop, get_or, Option, Some, None, Bool, true, false, if◌then◌else◌, refl, sym, ap, ◌∙◌, subst, inl, inr, arith}
+use Rattle.std.proofs.Common.{◌≡◌, ◌↔◌, ℕ, suc, ◌+◌, ◌<◌, ◌≤◌, List, [], ◌∷◌, ◌++◌, length, drop, get_or, Option, Some, None, Bool, true, false, if◌then◌else◌, refl, sym, ap, ◌∙◌, subst, inl, inr, arith}
 use Rattle.std.specs.Prelude.{◌==◌}
 use Rattle.std.specs.List.{AllPairs, Contains, slice_get, filter, filter_map, cons_option, list_any}
 use Rattle.std.specs.Option.{IsSomeAnd}
 use Rattle.std.proofs.lemmas.List.{drop_more, length-drop}
 use Rattle.std.proofs.lemmas.List.Folds.{Any-from_list_any, list_any-from_Any}
 use Rattle.std.proofs.lemmas.List.Elements.{Contains-append_cases, All-contains}
+use Rattle.std.proofs.lemmas.Bool.{cases_Bool}
 use Rattle.std.proofs.lemmas.Bool.Decides.{eqb_tells, Decides-eqb}
 use Rattle.std.proofs.lemmas.Option.{slice_get_read}
 use Rattle.lin_model.specs.Conditions.{PlainCondition}
 use Rattle.lin_model.specs.declared.atom.Atom.{Atom}
 use Rattle.slicer.specs.Names.{Names, NamesNothingAt, atom_vars}
 use Rattle.slicer.specs.Linked.{alone}
+use Rattle.slicer.specs.Laws.{HasNamed}
 use Rattle.slicer.specs.Slices.{PlainSlice, IsSliceOf, IsVariableFree, IsFront, least}
+use Rattle.slicer.proofs.ElementLemmas.{Contains-cases}
 use Rattle.canoniser.specs.Keys.{IsSliceIn}
 use Rattle.canoniser.specs.Numbering.{atoms_of}
-use Rattle.canoniser.proofs.SliceLemmas.{NamesDeclared, named_below, only}
-use Rattle.canoniser.proofs.SideLemmas.{Contains-cases}
-use Rattle.canoniser.proofs.Lookups.{Found-from, IsSomeAnd-found, within_from_IsSomeAnd}
+use Rattle.canoniser.proofs.SliceLemmas.{only}
+use Rattle.slicer.proofs.Lookups.{Found-from, IsSomeAnd-found, within_from_IsSomeAnd}
 
 -- a number is among the numbers
 abbrev pub is_among : List ℕ → ℕ → Bool
@@ -65,8 +67,8 @@ pub record Selects (c : PlainCondition) (s : PlainSlice) : Type 0 where
   pub ascending : AllPairs ◌<◌ s.atoms
   pub just : (j : ℕ) → Contains s.atoms j ↔ IsSomeAnd (slice_get c.atoms j) (λ atom. belongs s.vars atom ≡ true)
 
-Selects-class : (c : PlainCondition) (var : ℕ) (s : PlainSlice) → NamesDeclared c → IsSliceOf c var s → Selects c s
-Selects-class c var s declared is =
+Selects-class : (c : PlainCondition) (var : ℕ) (s : PlainSlice) → HasNamed c s → IsSliceOf c var s → Selects c s
+Selects-class c var s has_named is =
     let some : 0 < length s.vars = let first = (is.vars.just var).1 (is.declared, alone) in omega (arith, first.1) in
     record {
       ascending = is.atoms.ascending;
@@ -74,7 +76,7 @@ Selects-class c var s declared is =
         λ has.
             let one = (is.atoms.just j).0 has in
             let found = Found-from (slice_get c.atoms j) (λ atom. Names atom one.0) one.2 in
-            let in_slice = (is.vars.just one.0).1 (named_below c j one.0 found.value declared found.is found.holds, one.1) in
+            let in_slice = has_named j one.0 has one.2 in
             IsSomeAnd-found (slice_get c.atoms j) (λ atom. belongs s.vars atom ≡ true) found.value found.is ((belongs-tells s.vars found.value some).1 (one.0, in_slice, found.holds)),
         λ there.
             let found = Found-from (slice_get c.atoms j) (λ atom. belongs s.vars atom ≡ true) there in
@@ -101,13 +103,13 @@ Selects-front c [] s is has = absurd (omega (arith, has.1))
 Selects-front c (slice ∷ []) s is has = subst (Selects c) (only slice s has.0 has.1 has.2) (Selects-free c slice is)
 Selects-front c (slice ∷ another ∷ more) s is has = absurd is
 
-pub Selects-slice : (c : PlainCondition) (s : PlainSlice) → NamesDeclared c → IsSliceIn c s → Selects c s
-Selects-slice c s declared one =
+pub Selects-slice : (c : PlainCondition) (s : PlainSlice) → HasNamed c s → IsSliceIn c s → Selects c s
+Selects-slice c s has_named one =
     let all = one.all in
     let has : Contains (all.front ++ all.classes) s = rw all.joined at one.one in
     elim (Contains-append_cases all.front all.classes s has) [
       | inl in_front ↦ Selects-front c all.front s all.variable_free in_front
-      | inr in_classes ↦ Selects-class c (least s) s declared (All-contains (λ slice. IsSliceOf c (least slice) slice) all.classes s all.linked.each in_classes)
+      | inr in_classes ↦ Selects-class c (least s) s has_named (All-contains (λ slice. IsSliceOf c (least slice) slice) all.classes s all.linked.each in_classes)
     ]
 
 -- ascending numbers from k on of just the elements that pass
@@ -168,10 +170,6 @@ nothing_past whole p k (m ∷ ms) past from =
     let within = within_from_IsSomeAnd whole (λ x. p x ≡ true) m both.1 in
     absurd (omega arith)
 
-pub true_or_false : (b : Bool) → (b ≡ true) ⊎ (b ≡ false)
-true_or_false true = inl refl
-true_or_false false = inr refl
-
 -- what a place of the list has, and the rest
 place_of : (whole : List Atom) (y : Atom) (ys : List Atom) (k : ℕ) → y ∷ ys ≡ drop k whole → (slice_get whole k ≡ Some y) × (ys ≡ drop (k + 1) whole)
 place_of whole y ys k rest =
@@ -189,13 +187,13 @@ filter_map-selected whole [] p k numbers rest from =
     nothing_past whole p k numbers (omega (arith, length-drop k whole, none)) from
 filter_map-selected whole (y ∷ ys) p k [] rest from =
     let place = place_of whole y ys k rest in
-    elim (true_or_false (p y)) [
+    elim (cases_Bool (p y)) [
       | inl passes ↦ (let no = (from.just k).1 (omega arith, IsSomeAnd-found (slice_get whole k) (λ x. p x ≡ true) y place.0 passes) in absurd (omega (arith, no.1)))
       | inr fails ↦ filter_map-selected whole ys p (k + 1) [] place.1 (SelectsFrom-skipped whole p k y [] place.0 fails from) ∙ sym (ap (λ (b : Bool). if b then y ∷ filter p ys else filter p ys) fails)
     ]
 filter_map-selected whole (y ∷ ys) p k (m ∷ ms) rest from =
     let place = place_of whole y ys k rest in
-    elim (true_or_false (p y)) [
+    elim (cases_Bool (p y)) [
       | inl passes ↦ (
           let first = first_is whole p k m ms y place.0 passes from in
           let later = filter_map-selected whole ys p (k + 1) ms place.1 (SelectsFrom-rest whole p k m ms first from) in

@@ -1,5 +1,5 @@
 -- What a side is worth, by the factors of the variables of a list.
-use Rattle.std.proofs.Common.{◌≡◌, ◌≢◌, ℕ, zero, suc, ◌+◌, ◌<◌, Bool, true, false, List, [], ◌∷◌, length, get_or, ℤ, pos, ◌+ℤ◌, ◌-ℤ◌, ◌*ℤ◌, neg_ℤ, ◌⊎◌, inl, inr, refl, arith, ap, sym, subst, ◌∙◌}
+use Rattle.std.proofs.Common.{◌≡◌, ◌≢◌, ℕ, suc, ◌+◌, ◌<◌, Bool, true, false, List, [], ◌∷◌, length, get_or, ℤ, pos, ◌+ℤ◌, ◌-ℤ◌, ◌*ℤ◌, neg_ℤ, inl, inr, refl, arith, ap, sym, subst, ◌∙◌}
 use Rattle.std.specs.Prelude.{Option, Some, None, IfSome, Contains, AllPairs, is_some, if◌then◌else◌, ◌==◌}
 use Rattle.std.specs.List.{cons_option}
 use Rattle.std.specs.Ordering.{int_eq}
@@ -13,6 +13,7 @@ use Rattle.lin_model.specs.Form.{form_value}
 use Rattle.lin_model.specs.declared.atom.Atom.{Atom}
 use Rattle.lin_model.specs.declared.form.FormTerm.{FormTerm}
 use Rattle.slicer.specs.Names.{side_vars, Names}
+use Rattle.slicer.proofs.ElementLemmas.{Contains-first, Contains-later, Contains-cases}
 use Rattle.canoniser.specs.Gathered.{is_on, factor_on, constants_of, coefficient, constant}
 use Rattle.canoniser.specs.Forms.{terms_from}
 use Rattle.canoniser.specs.Solutions.{point_of}
@@ -26,16 +27,6 @@ distinct-head v vs pairs has = pairs 0 (suc has.0) v (omega arith) (omega (arith
 pub distinct-tail : (v : ℕ) (vs : List ℕ) → AllPairs ◌≢◌ (v ∷ vs) → AllPairs ◌≢◌ vs
 distinct-tail v vs pairs i j d before within = pairs (suc i) (suc j) d (omega arith) (omega arith)
 
-pub Contains-head : {X : Type 0} (x : X) (xs : List X) → Contains (x ∷ xs) x
-Contains-head x xs = (0, omega arith, refl)
-
-pub Contains-behind : {X : Type 0} (x : X) (xs : List X) (y : X) → Contains xs y → Contains (x ∷ xs) y
-Contains-behind x xs y has = (suc has.0, omega (arith, has.1), has.2)
-
-pub Contains-cases : {X : Type 0} (x : X) (xs : List X) (y : X) → Contains (x ∷ xs) y → (x ≡ y) ⊎ Contains xs y
-Contains-cases x xs y (zero, within, is) = inl is
-Contains-cases x xs y (suc k, within, is) = inr (k, omega arith, is)
-
 -- ---- the sum over the variables of a list, each its factor times its value
 
 abbrev pub weighted : (ℕ → ℤ) → List ℕ → List ℤ → ℤ
@@ -48,8 +39,8 @@ zero_times f n e = ap (λ (x : ℤ). x *ℤ n) e ∙ zero-*ℤ n
 weighted-zero : (f : ℕ → ℤ) (vs : List ℕ) (values : List ℤ) → ((v : ℕ) → Contains vs v → f v ≡ pos 0) → weighted f vs values ≡ pos 0
 weighted-zero f [] values none = refl
 weighted-zero f (v ∷ vs) values none =
-    let rest = weighted-zero f vs values (λ w has. none w (Contains-behind v vs w has)) in
-    omega (arith, ints, zero_times (f v) (value_at values v) (none v (Contains-head v vs)), rest)
+    let rest = weighted-zero f vs values (λ w has. none w (Contains-later v vs w has)) in
+    omega (arith, ints, zero_times (f v) (value_at values v) (none v (Contains-first v vs)), rest)
 
 weighted-added : (f g : ℕ → ℤ) (vs : List ℕ) (values : List ℤ) → weighted (λ v. f v +ℤ g v) vs values ≡ weighted f vs values +ℤ weighted g vs values
 weighted-added f g [] values = omega (arith, ints)
@@ -92,11 +83,11 @@ weighted-one w n (v ∷ vs) values distinct has =
 
 names-head : (P : ℕ → Type 0) (var : Option ℕ) (rest : List ℕ) → ((w : ℕ) → Contains (cons_option var rest) w → P w) → IfSome var P
 names-head P None rest each = tt
-names-head P (Some v) rest each = each v (Contains-head v rest)
+names-head P (Some v) rest each = each v (Contains-first v rest)
 
 names-tail : (P : ℕ → Type 0) (var : Option ℕ) (rest : List ℕ) → ((w : ℕ) → Contains (cons_option var rest) w → P w) → (w : ℕ) → Contains rest w → P w
 names-tail P None rest each w has = each w has
-names-tail P (Some v) rest each w has = each w (Contains-behind v rest w has)
+names-tail P (Some v) rest each w has = each w (Contains-later v rest w has)
 
 -- one term
 term_value-is : (factor : ℤ) (var : Option ℕ) (vs : List ℕ) (values : List ℤ) → AllPairs ◌≢◌ vs → IfSome var (Contains vs) → factor *ℤ weight var values ≡ (if is_some var then pos 0 else factor) +ℤ weighted (λ v. if is_on var v then factor else pos 0) vs values

@@ -1,19 +1,14 @@
 -- What the slices of a condition list.
-use Rattle.std.proofs.Common.{◌≡◌, ◌⊎◌, ℕ, zero, suc, ◌<◌, ◌≤◌, List, [], ◌∷◌, ◌++◌, length, get_or, Option, Some, None, ap, subst, inl, inr, arith}
-use Rattle.std.specs.List.{All, Any, AllPairs, Contains, slice_get, cons_option}
-use Rattle.std.specs.Option.{IsSomeAnd, IfSome}
-use Rattle.std.proofs.lemmas.List.Elements.{Contains-append_cases, Contains-get_or, All-contains, All-head, All-tail}
-use Rattle.std.proofs.lemmas.Option.{slice_get_within, get_or_from_slice_get}
-use Rattle.lin_model.specs.Terms.{PlainTerm}
-use Rattle.lin_model.specs.Conditions.{PlainCondition, Fits, NamesBelow, AtomNamesBelow}
+use Rattle.std.proofs.Common.{◌≡◌, ℕ, zero, suc, ◌<◌, ◌≤◌, List, [], ◌∷◌, ◌++◌, length, get_or, subst, inl, inr, arith}
+use Rattle.std.specs.List.{AllPairs, Contains}
+use Rattle.std.proofs.lemmas.List.Elements.{Contains-append_cases, Contains-get_or, All-contains}
+use Rattle.lin_model.specs.Conditions.{PlainCondition, Fits}
 use Rattle.lin_model.specs.declared.atom.Atom.{Atom}
-use Rattle.slicer.specs.Names.{Names, atom_vars, side_vars, NamesNothingAt}
-use Rattle.slicer.specs.Linked.{longer}
-use Rattle.slicer.specs.Laws.{HasNamed}
+use Rattle.slicer.specs.Names.{Names, atom_vars, NamesNothingAt, NamesDeclared}
+use Rattle.slicer.specs.Laws.{HasNamed, SlicesPartition}
 use Rattle.slicer.specs.Slices.{PlainSlice, IsSliceOf, IsVariableFree, IsFront, least}
 use Rattle.canoniser.specs.Keys.{IsSliceIn}
-use Rattle.canoniser.proofs.Lookups.{Found-from, within_from_IsSomeAnd}
-use Rattle.canoniser.proofs.SideLemmas.{Contains-cases}
+use Rattle.slicer.proofs.Lookups.{within_from_IsSomeAnd}
 
 -- an atom names only variables of the list
 abbrev pub NamesOnly : List ℕ → Atom → Type 0
@@ -83,60 +78,6 @@ few_atoms c s fits one =
     let few = fits.few_atoms in
     omega arith
 
--- a side that names only variables below n
-cons_option-cases : (o : Option ℕ) (xs : List ℕ) (v : ℕ) → Contains (cons_option o xs) v → (o ≡ Some v) ⊎ Contains xs v
-cons_option-cases None xs v has = inr has
-cons_option-cases (Some w) xs v has = elim (Contains-cases w xs v has) [ inl here ↦ inl (ap Some here) | inr later ↦ inr later ]
-
-side_below : (n : ℕ) (terms : List PlainTerm) (v : ℕ) → NamesBelow n terms → Contains (side_vars terms) v → v < n
-side_below n [] v below has = absurd (omega (arith, has.1))
-side_below n (t ∷ ts) v below has = elim (cons_option-cases t.var (side_vars ts) v has) [
-  | inl here ↦ subst (λ (o : Option ℕ). IfSome o (λ w. w < n)) here (All-head (λ term. IfSome term.var (λ w. w < n)) t ts below)
-  | inr later ↦ side_below n ts v (All-tail (λ term. IfSome term.var (λ w. w < n)) t ts below) later
-]
-
--- the atoms of a condition name only variables that it has
-abbrev pub NamesDeclared : PlainCondition → Type 0
-NamesDeclared c = All (AtomNamesBelow (length c.vars)) c.atoms
-
-pub named_below : (c : PlainCondition) (j v : ℕ) (atom : Atom) → NamesDeclared c → slice_get c.atoms j ≡ Some atom → Names atom v → v < length c.vars
-named_below c j v atom declared is names =
-    let n = length c.vars in
-    let below : AtomNamesBelow n atom = subst (AtomNamesBelow n) (get_or_from_slice_get c.atoms j atom atom is) (declared j atom (slice_get_within c.atoms j atom is)) in
-    elim (Contains-append_cases (side_vars atom.left) (side_vars atom.right) v names) [
-      | inl left ↦ side_below n atom.left v below.left left
-      | inr right ↦ side_below n atom.right v below.right right
-    ]
-
--- a slice of linked variables has what its atoms name
-HasNamed-class : (c : PlainCondition) (var : ℕ) (s : PlainSlice) → NamesDeclared c → IsSliceOf c var s → HasNamed c s
-HasNamed-class c var s declared is j v has names =
-    let one = (is.atoms.just j).0 has in
-    let u = one.0 in
-    let found = Found-from (slice_get c.atoms j) (λ atom. Names atom v) names in
-    let atom = found.value in
-    let names_u : Names atom u = subst (λ (o : Option Atom). IsSomeAnd o (λ x. Names x u)) found.is one.2 in
-    let within = slice_get_within c.atoms j atom found.is in
-    let both : Any (λ x. Names x u × Names x v) c.atoms = (j, atom, within, get_or_from_slice_get c.atoms j atom atom found.is, (names_u, found.holds)) in
-    (is.vars.just v).1 (named_below c j v atom declared found.is found.holds, longer one.1 both)
-
-HasNamed-free : (c : PlainCondition) (s : PlainSlice) → IsVariableFree (NamesNothingAt c.atoms) s → HasNamed c s
-HasNamed-free c s is j v has names =
-    let found = Found-from (slice_get c.atoms j) (λ atom. Names atom v) names in
-    let none : atom_vars found.value ≡ [] = subst (λ (o : Option Atom). IsSomeAnd o (λ atom. atom_vars atom ≡ [])) found.is ((is.atoms.just j).0 has) in
-    let no_more : Contains [] v = subst (λ (vs : List ℕ). Contains vs v) none found.holds in
-    absurd (omega (arith, no_more.1))
-
-HasNamed-front : (c : PlainCondition) (front : List PlainSlice) (s : PlainSlice) → IsFront (NamesNothingAt c.atoms) front → Contains front s → HasNamed c s
-HasNamed-front c [] s is has = absurd (omega (arith, has.1))
-HasNamed-front c (slice ∷ []) s is has = subst (HasNamed c) (only slice s has.0 has.1 has.2) (HasNamed-free c slice is)
-HasNamed-front c (slice ∷ another ∷ more) s is has = absurd is
-
-pub HasNamed-slice : (c : PlainCondition) (s : PlainSlice) → NamesDeclared c → IsSliceIn c s → HasNamed c s
-HasNamed-slice c s declared one =
-    let all = one.all in
-    let has : Contains (all.front ++ all.classes) s = rw all.joined at one.one in
-    elim (Contains-append_cases all.front all.classes s has) [
-      | inl in_front ↦ HasNamed-front c all.front s all.variable_free in_front
-      | inr in_classes ↦ HasNamed-class c (least s) s declared (All-contains (λ slice. IsSliceOf c (least slice) slice) all.classes s all.linked.each in_classes)
-    ]
+-- a slice has what its atoms name
+pub HasNamed-slice : SlicesPartition → (c : PlainCondition) (s : PlainSlice) → NamesDeclared c → IsSliceIn c s → HasNamed c s
+HasNamed-slice parts c s declared one = All-contains (HasNamed c) one.slices s (parts c one.slices declared one.all).named one.one

@@ -33,7 +33,7 @@ less_from_not a b Equal is not_less differ = absurd (differ (sym (compare_atoms-
 less_from_not a b Greater is not_less differ = compare_atoms-total.antisymm a b ∙ ap ordering_reverse is
 
 -- the plainest atom of a form
-abbrev plain : List FormTerm → PlainKeyAtom
+abbrev pub plain : List FormTerm → PlainKeyAtom
 plain form = record { form = form; op = Le; constant = pos 0 }
 
 -- the forms of atoms compare as the atoms do
@@ -47,7 +47,7 @@ then_equal Less = refl
 then_equal Equal = refl
 then_equal Greater = refl
 
-compare_plain : (f g : List FormTerm) → compare_atoms (plain f) (plain g) ≡ compare_forms f g
+pub compare_plain : (f g : List FormTerm) → compare_atoms (plain f) (plain g) ≡ compare_forms f g
 compare_plain f g = then_equal (compare_forms f g)
 
 -- forms of which neither is less are the same

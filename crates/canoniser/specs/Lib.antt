@@ -10,5 +10,6 @@ pub mod Strongest
 pub mod Solutions
 pub mod Said
 pub mod Answers
+pub mod OneKey
 pub mod Factors
 pub mod Laws

@@ -19,7 +19,7 @@ IsNever atom = (values : List ℤ) → ¬ AtomHolds atom values
 abbrev pub IsNeverAt : PlainCondition → ℕ → Type 0
 IsNeverAt c j = IsSomeAnd (slice_get c.atoms j) IsNever
 
--- the first atom of the slice that no integers satisfy
+-- the slice has this atom, no integers satisfy it, and some satisfy each that comes before it
 pub record IsFirstNever (c : PlainCondition) (s : PlainSlice) (j : ℕ) : Type 0 where
   pub in_slice : Contains s.atoms j
   pub never : IsNeverAt c j
@@ -33,7 +33,7 @@ point_of order values = map (λ v. value_at values v) order
 abbrev pub SliceHolds : PlainCondition → PlainSlice → List ℤ → Type 0
 SliceHolds c s values = All (λ atom. AtomHolds atom values) (atoms_of c s)
 
--- an assignment makes the slice's atoms hold exactly where its point satisfies the key
+-- at an assignment the atoms of the slice hold where the key holds at its point, and nowhere else
 abbrev pub HaveSameSolutions : PlainCondition → PlainSlice → List ℕ → List PlainKeyAtom → Type 0
 HaveSameSolutions c s order key = (values : List ℤ) → IsAssignment c.vars values → SliceHolds c s values ↔ KeyHolds key (point_of order values)
 

@@ -46,6 +46,7 @@ fn is_implied<L: Ledger>(atoms: &[KeyAtom], atom: &KeyAtom, steps: &mut Steps<L>
     false
 }
 
+/// Whether the forms are the same.
 fn have_same_form(a: &KeyAtom, b: &KeyAtom) -> bool
     ensures { IsTrue result ↔ (a.now.form ≡ b.now.form) }
 {

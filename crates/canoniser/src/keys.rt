@@ -13,7 +13,7 @@ use crate::strongest::strongest;
 use atom_implies::table_is_right;
 use lin_model::{Condition, Key, KeyAtom};
 use outside::NoMemory;
-use slicer::Slice;
+use slicer::{Slice, slices_are_a_partition};
 use std::alloc::Global;
 
 /// What the slice comes to, which has to be one of the condition's slices: the first of its atoms that no
@@ -23,6 +23,7 @@ pub fn canonise(alloc: Global, c: &Condition, s: &Slice) -> Result<Canonical, No
     ensures { IfOk result (Canonises c.now s.now) }
 {
     table_is_right();
+    slices_are_a_partition();
     let order = order_of(alloc, c, s)?;
     match said_of(alloc, c, s, &order)? {
         Said::Never(j) => Ok(Canonical::False(j)),

@@ -17,7 +17,9 @@ mod strongest;
 pub use back::Back;
 pub use canonical::Canonical;
 pub use keys::canonise;
-pub use laws::{factors_keep_keys, renumbering_keeps_keys, repeating_keeps_keys};
+pub use laws::{
+    factors_keep_keys, keys_are_unique, keys_exist, renumbering_keeps_keys, repeating_keeps_keys,
+};
 
 #[cfg(test)]
 mod tests;

@@ -8,7 +8,7 @@ ghost use Rattle.canoniser.specs.Said.{Says};
 use crate::outcome::{Outcome, outcome_of};
 use lin_model::{Condition, KeyAtom};
 use outside::NoMemory;
-use slicer::Slice;
+use slicer::{Slice, slices_are_a_partition};
 use std::alloc::Global;
 
 /// What the atoms of a slice say.
@@ -32,6 +32,7 @@ pub(crate) fn said_of(
     ensures says { IfOk result (Says c.now s.now) }
     ensures fits { Fits c.now.vars c.now.atoms }
 {
+    slices_are_a_partition();
     let all = c.atoms();
     let mut canonical = Vec::new(alloc);
     for j in s.atoms() {

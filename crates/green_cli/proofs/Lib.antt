@@ -1,3 +1,4 @@
+mod CompleteLemmas
 mod FewLemmas
 mod InputLemmas
 mod StatusLemmas

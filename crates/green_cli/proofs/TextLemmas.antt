@@ -81,12 +81,6 @@ pub next_executors : (text piece : List ℕ) (executors : List (List PlainCondit
 next_executors text piece executors scripts next sum e step = step ∙ ap (λ (n : ℕ). piece ++ executors_text n executors scripts) (sym e)
 
 -- pairs of lists, pairwise related
-pub zip_length : {A B : Type 0} (R : A → B → Type 0) (xs : List A) (ys : List B) → AllZip R xs ys → length xs ≡ length ys
-zip_length R [] [] h = refl
-zip_length R [] (y ∷ ys) h = absurd h
-zip_length R (x ∷ xs) [] h = absurd h
-zip_length R (x ∷ xs) (y ∷ ys) h = ap suc (zip_length R xs ys h.1)
-
 pub zip_read : {A B : Type 0} (R : A → B → Type 0) (xs : List A) (ys : List B) (i : ℕ) (x : A) (y : B) → AllZip R xs ys → i < length xs → R (get_or xs i x) (get_or ys i y)
 zip_read R [] ys i x y h within = absurd (omega (arith, within))
 zip_read R (a ∷ xs) [] i x y h within = absurd h

@@ -56,6 +56,7 @@ abbrev pub solved_in_all : List (List Plain) → ℕ
 solved_in_all [] = 0
 solved_in_all (answers ∷ scripts) = solved_count answers + solved_in_all scripts
 
+-- the marks of these parts, in order
 unfoldable pub parts_text : ℕ → List PlainPart → List ℕ
 parts_text place [] = []
 parts_text place (part ∷ parts) = part_text place part ++ parts_text (place + solved_of part) parts
@@ -74,6 +75,7 @@ script_text place [] answers = []
 script_text place (q ∷ queries) [] = []
 script_text place (q ∷ queries) (answer ∷ answers) = line (answer_text place q answer) ++ script_text (place + solved_in answer.parts) queries answers
 
+-- the answers of all executors
 unfoldable pub executors_text : ℕ → List (List PlainCondition) → List (List Plain) → List ℕ
 executors_text place [] scripts = []
 executors_text place (queries ∷ executors) [] = []

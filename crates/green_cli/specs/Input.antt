@@ -33,6 +33,14 @@ pub record WasRead (old new : Option (List ℕ)) (bytes : List ℕ) : Type 0 whe
   pub at_end : IfSome new (λ rest. rest ≡ [])
   pub short : length bytes ≤ max_input
 
+-- the source tells its bytes, and they are the text of a session, not too long
+pub record GivesSession (left : Option (List ℕ)) : Type 0 where
+  pub bytes : List ℕ
+  pub told : left ≡ Some bytes
+  pub short : length bytes ≤ max_input
+  pub session : List (List PlainCondition)
+  pub spells : SpellsSession bytes session
+
 -- the input, read to its end, spells this session
 pub record InputWasRead (old new : Option (List ℕ)) (session : List (List PlainCondition)) : Type 0 where
   pub bytes : List ℕ

@@ -1,5 +1,5 @@
 -- The lines that tell of a fault.
-use Rattle.std.specs.Prelude.{ℕ, List, ◌++◌, codes, decimal}
+use Rattle.std.specs.Prelude.{ℕ, List, [], ◌++◌, codes, decimal}
 use Rattle.lin_text.specs.Spelling.{line}
 use Rattle.lin_text.specs.declared.fault.SessionFault.{SessionFault}
 use Rattle.lin_text.specs.declared.fault.SessionKind.{SessionKind}
@@ -7,7 +7,7 @@ use Rattle.lin_text.specs.declared.fault.SessionKind.TheVariants.{BadHeader, Too
 use Rattle.green_cli.specs.declared.fault.Fault.{Fault}
 use Rattle.green_cli.specs.declared.fault.Fault.TheVariants.{Usage, Text, Read, Memory, TooLong}
 
--- the printed name of each kind of fault; no text has the last one
+-- the printed name of each kind of fault; want of memory is no fault of a text and has none
 unfoldable pub kind_text : SessionKind → List ℕ
 kind_text BadHeader = codes "bad-header"
 kind_text TooManyExecutors = codes "too-many-executors"
@@ -22,7 +22,7 @@ kind_text UnknownName = codes "unknown-name"
 kind_text NameTwice = codes "name-twice"
 kind_text EmptyRange = codes "empty-range"
 kind_text NoEnd = codes "no-end"
-kind_text NoMemory = codes "no-memory"
+kind_text NoMemory = []
 
 -- a fault of a text: its line, its column and its kind
 unfoldable pub text_line : SessionFault → List ℕ

@@ -4,6 +4,7 @@ use Rattle.std.specs.List.{AllZip}
 use Rattle.clap.specs.Words.{Text}
 use Rattle.lin_model.specs.Conditions.{PlainCondition}
 use Rattle.pipeline.specs.Answers.{IsRightAnswer}
+use Rattle.pipeline.specs.Laws.{Suffices}
 use Rattle.pipeline.specs.declared.answer.Plain.{Plain}
 use Rattle.pipeline.specs.declared.answer.Told.{Told}
 use Rattle.pipeline.specs.declared.answer.Told.TheVariants.{Sat, UnsatAtom, UnsatSlice, Unknown}
@@ -21,6 +22,10 @@ AreRight budget session answers = AllZip (λ queries script. AllZip (λ q answer
 pub record Solves (budget : ℕ) (old new : Option (List ℕ)) (report : Report) : Type 0 where
   pub input : InputWasRead old new report.session
   pub answers : AreRight budget report.session report.answers
+
+-- for each query the budget is at least the room of the key of each slice that was asked
+abbrev pub SufficesFor : ℕ → Report → Type 0
+SufficesFor budget report = AllZip (λ queries script. AllZip (λ q answer. Suffices budget q answer) queries script) report.session report.answers
 
 -- the budget that a command gives each slice
 abbrev pub budget_of : Command → ℕ

@@ -1,7 +1,8 @@
 -- The statuses of the top call: why each comes, and what it writes.
-use Rattle.std.specs.Prelude.{◌≡◌, ◌⊎◌, ℕ, List, Option}
+use Rattle.std.specs.Prelude.{◌≡◌, ◌≢◌, ◌⊎◌, ℕ, List, Option}
 use Rattle.outside.specs.Bytes.{Appends, AppendsFront}
 use Rattle.outside.specs.Counts.{Rose}
+use Rattle.lin_text.specs.declared.fault.SessionKind.TheVariants.{NoMemory}
 use Rattle.green_cli.specs.Input.{InputIsFaulty, InputIsTooLong, ReadFailed}
 use Rattle.green_cli.specs.Lines.{line_of}
 use Rattle.green_cli.specs.Solve.{IsEmpty}
@@ -46,9 +47,10 @@ pub record Writes (text : List ℕ) (old new : Option (List ℕ)) (before after 
   pub front : AppendsFront old new text
   pub whole : Appends old new text ⊎ Rose before after
 
--- A fault is told as itself; one of a text as want of memory too, since its line takes memory.
+-- A fault is told as itself; one of a text as want of memory too, since its line takes memory. Want of memory is told as
+-- no fault of a text.
 abbrev pub IsToldAs : Fault → Fault → Type 0
-IsToldAs (Text told) fault = (fault ≡ Text told) ⊎ (fault ≡ Memory)
+IsToldAs (Text told) fault = ((fault ≡ Text told) × (told.kind ≢ NoMemory)) ⊎ (fault ≡ Memory)
 IsToldAs Usage fault = fault ≡ Usage
 IsToldAs Read fault = fault ≡ Read
 IsToldAs Memory fault = fault ≡ Memory

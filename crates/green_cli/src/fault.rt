@@ -11,13 +11,13 @@ use std::alloc::{AllocError, AllocFailed};
 pub enum Fault {
     /// The words are no command. Status 10.
     Usage,
-    /// The input is no session, and this is its first fault. It is never of the kind `NoMemory`. Status 11.
+    /// The input is no session, and this is its first fault, which is never of the kind `NoMemory`. Status 11.
     Text(SessionFault),
     /// The source failed. Status 12.
     Read,
     /// Memory ran out. Status 16.
     Memory,
-    /// The source gave more than 16,777,216 bytes. Status 18.
+    /// More than 16,777,216 bytes came. Status 18.
     TooLong,
 }
 

@@ -15,7 +15,8 @@ pub const MAX_INPUT: usize = 16_777_216;
 /// How many bytes are asked of the source in one read.
 const PIECE: usize = 65_536;
 
-/// All that the source has left, in at most one turn a byte.
+/// All that the source has left, read in at most one turn a byte. `TooLong` comes where it gives more than `MAX_INPUT`
+/// bytes, and `Read` where it fails before; it is asked no further then.
 pub fn read_input<S: Source>(alloc: Global, source: &mut S) -> Result<Vec<u8>, Fault>
     ensures read { MatchResult result
         (λ bytes. WasRead (S.left source.old) (S.left source.new) bytes.items)

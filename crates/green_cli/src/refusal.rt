@@ -1,5 +1,5 @@
 //! Telling of a fault.
-ghost use Rattle.std.specs.Prelude.{◌≡◌, ◌++◌, IfOk, OnOk};
+ghost use Rattle.std.specs.Prelude.{◌≡◌, ◌≢◌, ◌++◌, IfOk, OnOk};
 ghost use Rattle.green_cli.specs.Lines.{kind_text, line_of, text_line};
 ghost use Rattle.green_cli.specs.Statuses.{IsToldAs, Tells, Writes};
 ghost use Rattle.green_cli.specs.declared.fault.Fault.{Fault as AnyFault};
@@ -10,7 +10,8 @@ use outside::{NoMemory, Sink};
 use std::alloc::Global;
 
 /// Writes the line of a fault, and answers its status. Where memory runs out while the line of a text's fault is made,
-/// they are those of `Fault::Memory`. The status stays where the sink fails.
+/// they are those of `Fault::Memory`, and so are they for a text's fault of the kind `NoMemory`. The status stays where
+/// the sink fails.
 #[tactic(auto, unfolding(crate::specs::Lines::line_of))]
 pub fn tell<K: Sink>(alloc: Global, fault: Fault, sink: &mut K) -> u8
     ensures { (told : AnyFault) × IsToldAs fault told
@@ -43,25 +44,28 @@ fn tell_by<K: Sink>(fault: Fault, line: &[u8], sink: &mut K) -> u8
 /// The line of a text's fault, with its line feed.
 #[tactic(auto, unfolding(crate::specs::Lines::text_line))]
 fn text_line_of(alloc: Global, told: &SessionFault) -> Result<Vec<u8>, NoMemory>
-    ensures { IfOk result (λ line. line.items ≡ text_line told.now) }
+    ensures of_text { OnOk result (told.now.kind ≢ SessionKind.NoMemory) }
+    ensures line { IfOk result (λ line. line.items ≡ text_line told.now) }
 {
+    let kind = kind_name(told.kind)?;
     let mut line = Vec::new(alloc);
     push_str(&mut line, "fault text ")?;
     push_number(&mut line, told.line)?;
     push_str(&mut line, " ")?;
     push_number(&mut line, told.column)?;
     push_str(&mut line, " ")?;
-    push_str(&mut line, kind_name(told.kind))?;
+    push_str(&mut line, kind)?;
     push_str(&mut line, "\n")?;
     Ok(line)
 }
 
-/// The printed name of a kind of fault.
+/// The printed name of a kind of a text's fault. Want of memory is none.
 #[tactic(auto, unfolding(crate::specs::Lines::kind_text))]
-fn kind_name(kind: SessionKind) -> &'static str
-    ensures { result.now ≡ kind_text kind }
+fn kind_name(kind: SessionKind) -> Result<&'static str, NoMemory>
+    ensures of_text { OnOk result (kind ≢ SessionKind.NoMemory) }
+    ensures name { IfOk result (λ name. name.now ≡ kind_text kind) }
 {
-    match kind {
+    Ok(match kind {
         SessionKind::BadHeader => "bad-header",
         SessionKind::TooManyExecutors => "too-many-executors",
         SessionKind::TooManyQueries => "too-many-queries",
@@ -75,6 +79,6 @@ fn kind_name(kind: SessionKind) -> &'static str
         SessionKind::NameTwice => "name-twice",
         SessionKind::EmptyRange => "empty-range",
         SessionKind::NoEnd => "no-end",
-        SessionKind::NoMemory => "no-memory",
-    }
+        SessionKind::NoMemory => return Err(NoMemory),
+    })
 }

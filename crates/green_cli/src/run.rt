@@ -4,11 +4,12 @@ ghost use Rattle.std.specs.String.{string_bytes};
 ghost use Rattle.outside.specs.Bytes.{Appends};
 ghost use Rattle.outside.specs.Counts.{Rose};
 ghost use Rattle.green_cli.specs.AnswersText.{answers_text};
-ghost use Rattle.green_cli.specs.Input.{TakesAtMost, max_input};
-ghost use Rattle.green_cli.specs.Solve.{HasUnknown, IsEmpty, Solves, SolvesAsAsked, budget_of};
+ghost use Rattle.green_cli.specs.Input.{GivesSession, TakesAtMost, max_input};
+ghost use Rattle.green_cli.specs.Solve.{HasUnknown, IsEmpty, Solves, SolvesAsAsked, SufficesFor, budget_of};
 ghost use Rattle.green_cli.specs.Statuses.{IsAnswered, IsRefused, IsToldAs, IsWritten, Tells, Writes};
-ghost use Rattle.green_cli.specs.Words.{AreCommand};
+ghost use Rattle.green_cli.specs.Words.{AreCommand, IsCommand};
 ghost use Rattle.green_cli.specs.declared.fault.Fault.{Fault as AnyFault};
+ghost use Rattle.green_cli.specs.declared.words.Command.{Command as AnyCommand};
 
 use crate::fault::Fault;
 use crate::outcome::{Outcome, Report};
@@ -17,11 +18,13 @@ use crate::solve::{Solved, has_unknown, solve};
 use crate::words::{Command, WordsFault, read_words};
 use lin_model::Session;
 use outside::{Disk, Gate, Sink, Source};
+use pipeline::sufficient_budgets_decide;
+use session_text::spelled_has_no_fault;
 use sqlite_items::Items;
 use std::alloc::Global;
 
 /// Does what the words ask for. Statuses and lines are those of `run_once`; status 10 comes exactly where
-/// the words ask for no command, and then the source is left alone too.
+/// the words ask for no command, unless memory ran out; the source is then left alone too.
 pub fn green<S: Source, K: Sink, D: Disk + Send, G: Gate + Sync>(
     alloc: Global,
     words: &[String],
@@ -52,6 +55,13 @@ pub fn green<S: Source, K: Sink, D: Disk + Send, G: Gate + Sync>(
         (S.left source.old) (S.left source.new) (S.faults source.old) (S.faults source.new)
         (K.taken sink.old) (K.taken sink.new) (K.faults sink.old) (K.faults sink.new) result.report }
 
+    // Where it is bound to be, and where no query is left unknown.
+    ensures complete { AreCommand (map string_bytes words.now) → GivesSession (S.left source.old)
+        → ¬ Rose (S.faults source.old) (S.faults source.new) → ¬ Rose (K.faults sink.old) (K.faults sink.new)
+        → IsWritten result.status ⊎ (result.status ≡ 16) }
+    ensures sufficient { (command : AnyCommand) → IsCommand (map string_bytes words.now) command
+        → SufficesFor (budget_of command) result.report → result.status ≢ 3 }
+
     ensures bounded { TakesAtMost (max_input + 1) (S.left source.old) (S.left source.new) }
     ensures disk { result.disk ≡ disk }
     ensures other { result.other ≡ other }
@@ -65,12 +75,13 @@ pub fn green<S: Source, K: Sink, D: Disk + Send, G: Gate + Sync>(
 
 /// Does a command.
 ///
-/// Status 0: the source was read to its end, and its bytes are a session; each answer is right and tells sat or unsat;
-/// the sink took the whole text of the answers. Status 3: the same, but some answer is `Unknown`. Status 13: the sink
-/// failed and took a front of the text.
+/// Status 0: the whole input spells the session of the report; each answer is right and tells sat or unsat; the sink took
+/// the whole text of the answers. Status 3: the same, but some answer is `Unknown`. Status 13: the sink failed and took a
+/// front of the text.
 /// The others write a line of their own and leave the report empty. 11: the input is no session; the line tells its
-/// first fault. 12: the source failed. 16: memory ran out. 18: the source gave more than 16,777,216 bytes.
-/// The disks are handed back as they are.
+/// first fault. 12: the source failed. 16: memory ran out. 18: more than 16,777,216 bytes came.
+/// A session's text within the limit, and no fault of source or sink, give 0, 3 or 16; and 3 doesn't come where the
+/// budget is at least the room of the key of each slice that was asked. The disks are handed back as they are.
 pub fn run_once<S: Source, K: Sink, D: Disk>(
     alloc: Global,
     command: &Command,
@@ -97,10 +108,18 @@ pub fn run_once<S: Source, K: Sink, D: Disk>(
         (S.left source.old) (S.left source.new) (S.faults source.old) (S.faults source.new)
         (K.taken sink.old) (K.taken sink.new) (K.faults sink.old) (K.faults sink.new) result.report }
 
+    // Where it is bound to be, and where no query is left unknown.
+    ensures complete { GivesSession (S.left source.old)
+        → ¬ Rose (S.faults source.old) (S.faults source.new) → ¬ Rose (K.faults sink.old) (K.faults sink.new)
+        → IsWritten result.status ⊎ (result.status ≡ 16) }
+    ensures sufficient { SufficesFor (budget_of command.now) result.report → result.status ≢ 3 }
+
     ensures bounded { TakesAtMost (max_input + 1) (S.left source.old) (S.left source.new) }
     ensures disk { result.disk ≡ disk }
     ensures other { result.other ≡ other }
 {
+    spelled_has_no_fault();
+    sufficient_budgets_decide();
     let Command::Solve { budget } = command;
     match solve(alloc, *budget, source) {
         Ok(solved) => finish(solved, sink, disk, other),

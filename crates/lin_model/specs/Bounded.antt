@@ -1,5 +1,5 @@
 -- Keys that bound each of their variables on both sides.
-use Rattle.std.specs.Prelude.{◌≡◌, ◌⊎◌, ℕ, ◌^◌, ◌<◌, ℤ, pos, neg_ℤ, ◌≤ℤ◌, List, [], ◌∷◌}
+use Rattle.std.specs.Prelude.{◌≡◌, ◌⊎◌, ℕ, ◌^◌, ◌<◌, pos, neg_ℤ, ◌≤ℤ◌, List, [], ◌∷◌}
 use Rattle.std.specs.List.{Any}
 use Rattle.lin_model.specs.declared.form.FormTerm.{FormTerm}
 use Rattle.lin_model.specs.declared.op.Op.TheVariants.{Le, Ge, Eq}

@@ -4,7 +4,7 @@ use Rattle.std.specs.Int.{◌∣◌}
 use Rattle.std.specs.List.{All}
 use Rattle.lin_model.specs.declared.form.FormTerm.{FormTerm}
 
--- the value that a point gives to the variable of this number
+-- the value of the variable of this number, the values being given in the order of the variables
 abbrev pub value_at : List ℤ → ℕ → ℤ
 value_at point v = slice_index_or point v (pos 0)
 

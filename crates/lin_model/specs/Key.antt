@@ -15,6 +15,7 @@ pub record FitsKey (atoms : List PlainKeyAtom) : Type 0 where
   pub ascends : Ascends atoms
   pub few : length atoms ≤ 384
 
+-- a list of atoms that is a key: at most 384 canonical ones, each before the next
 pub record IsKey (atoms : List PlainKeyAtom) : Type 0 where
   pub fits : FitsKey atoms
   pub canonical : All IsCanonical atoms

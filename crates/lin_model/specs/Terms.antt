@@ -1,6 +1,7 @@
 -- Variables and terms as plain data, what a side is worth, and the limits of numbers.
-use Rattle.std.specs.Prelude.{ℕ, ◌^◌, ◌≤◌, List, [], ◌∷◌, length, slice_index_or, ℤ, pos, neg_ℤ, ◌+ℤ◌, ◌*ℤ◌, ◌≤ℤ◌, unsigned_abs, Option, Some, None}
+use Rattle.std.specs.Prelude.{ℕ, ◌^◌, ◌≤◌, List, [], ◌∷◌, length, ℤ, pos, neg_ℤ, ◌+ℤ◌, ◌*ℤ◌, ◌≤ℤ◌, unsigned_abs, Option, Some, None}
 use Rattle.lin_model.specs.Names.{IsName}
+pub use Rattle.lin_model.specs.Form.{value_at}
 
 -- a variable with its bounds, both included
 pub record PlainVar : Type 0 where
@@ -12,10 +13,6 @@ pub record PlainVar : Type 0 where
 pub record PlainTerm : Type 0 where
   pub factor : ℤ
   pub var : Option ℕ
-
--- the value of the variable of this number
-abbrev pub value_at : List ℤ → ℕ → ℤ
-value_at values var = slice_index_or values var (pos 0)
 
 -- what a variable counts for in a term, where a constant counts for 1
 abbrev pub weight : Option ℕ → List ℤ → ℤ

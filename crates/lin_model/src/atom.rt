@@ -1,4 +1,5 @@
 //! Comparisons as they are written.
+
 ghost use Rattle.std.specs.Prelude.{◌↔◌, IsTrue};
 ghost use Rattle.lin_model.specs.Truth.{AtomHolds, Compares};
 
@@ -7,19 +8,28 @@ use crate::term::Expr;
 /// How the two sides of an atom are compared.
 #[derive(Clone, Copy, Debug, PartialEq, Eq)]
 pub enum Cmp {
+    /// `<=`
     Le,
+    /// `<`
     Lt,
+    /// `>=`
     Ge,
+    /// `>`
     Gt,
+    /// `=`
     Eq,
+    /// `!=`
     Ne,
 }
 
 /// One comparison of two sides, as written.
 #[derive(Debug, Drop)]
 pub struct Atom {
+    /// The side before the sign.
     pub left: Expr,
+    /// The sign.
     pub cmp: Cmp,
+    /// The side behind it.
     pub right: Expr,
 }
 

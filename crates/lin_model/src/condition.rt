@@ -1,4 +1,5 @@
 //! Conditions: conjunctions of comparisons over bounded variables.
+
 ghost use Rattle.std.specs.Prelude.{◌≡◌, ◌↔◌, ◌<◌, ℕ, IsTrue, All, length, IfSome, Contains};
 ghost use Rattle.lin_model.specs.Terms.{PlainVar};
 ghost use Rattle.lin_model.specs.Truth.{AtomHolds, IsAssignment};
@@ -58,8 +59,8 @@ impl Condition {
         &self.atoms
     }
 
-    /// Whether there is one value for each variable, each is within its bounds, and every atom as
-    /// written holds.
+    /// Whether these values are an assignment, one a variable and none out of its bounds, under which
+    /// all the atoms hold just as they are written.
     pub fn holds(&self, values: &[i64]) -> bool
         ensures { IsTrue result ↔ Holds self.now values.now }
     {
@@ -70,7 +71,7 @@ impl Condition {
     }
 }
 
-/// Whether there is one value for each variable, and each is within its bounds.
+/// Whether these are as many values as variables, none of them out of its variable's bounds.
 fn is_assignment(vars: &[Var], values: &[i64]) -> bool
     ensures { IsTrue result ↔ IsAssignment vars.now values.now }
 {

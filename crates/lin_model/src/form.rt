@@ -4,10 +4,12 @@ ghost use Rattle.std.specs.Prelude.{◌≡◌};
 
 use std::marker::Model;
 
-/// One term of a form: `coef` times the variable of number `var`, counted from 0.
+/// One term of a form: a multiple of a variable.
 #[derive(Clone, Copy, Debug, PartialEq, Eq, PartialOrd, Ord)]
 pub struct FormTerm {
+    /// The number of the variable, from 0.
     pub var: u8,
+    /// By how much it is multiplied.
     pub coef: i64,
 }
 

@@ -1,13 +1,13 @@
 //! Canonical atoms, each the one spelling of a set of integer points.
 
 ghost use Rattle.std.specs.Prelude.{◌≡◌, ◌^◌, ◌<◌, ◌≤◌, ◌↔◌, ◌*ℤ◌, length, unsigned_abs, IsTrue, IsSome, IfSome};
-ghost use Rattle.std.specs.Int.{IsGcd};
 ghost use Rattle.std.specs.List.{All};
 ghost use Rattle.lin_model.specs.Form.{form_value, value_at, form_width, IsGcdOf};
 ghost use Rattle.lin_model.specs.KeyAtom.{PlainKeyAtom, AscendsBelow64, HasSmallCoefficients, BeginsPositive, IsCanonicalForm, IsCanonical, KeyAtomHolds};
 ghost use Rattle.lin_model.specs.Point.{IsPoint};
 
 use crate::form::{Form, FormTerm};
+use crate::gcd::gcd_of;
 use crate::op::Op;
 use crate::point::Point;
 use std::marker::Model;
@@ -126,6 +126,7 @@ fn term_value(term: FormTerm, values: &[i64]) -> i128
     scaled(term.coef, values[usize::from(term.var)])
 }
 
+/// A coefficient times a value.
 fn scaled(coef: i64, value: i64) -> i128
     requires coef { unsigned_abs coef < 2 ^ 40 }
     requires value { unsigned_abs value ≤ 2 ^ 32 }
@@ -173,34 +174,9 @@ fn begins_positive(terms: &[FormTerm]) -> bool
     terms[0].coef > 0
 }
 
-/// Whether no number above 1 divides every coefficient.
+/// Whether 1 is the greatest common divisor of the coefficients.
 fn is_primitive(terms: &[FormTerm]) -> bool
     ensures { IsTrue result ↔ IsGcdOf terms.now 1 }
 {
     gcd_of(terms) == 1
-}
-
-/// The greatest common divisor of the sizes of the coefficients, 0 where there are no terms or all are 0.
-pub fn gcd_of(terms: &[FormTerm]) -> u64
-    ensures { IsGcdOf terms.now result }
-{
-    let mut gcd = 0;
-    for term in terms {
-        gcd = gcd_of_two(gcd, term.coef.unsigned_abs());
-    }
-    gcd
-}
-
-/// Euclid's walk: the greatest common divisor stays while each number gives way to a remainder.
-fn gcd_of_two(a: u64, b: u64) -> u64
-    ensures { IsGcd a b result }
-{
-    let mut x = a;
-    let mut y = b;
-    while y != 0 {
-        let rest = x % y;
-        x = y;
-        y = rest;
-    }
-    x
 }

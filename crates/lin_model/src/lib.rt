@@ -4,6 +4,7 @@
 mod atom;
 mod condition;
 mod form;
+mod gcd;
 mod key;
 mod key_atom;
 mod limits;
@@ -18,8 +19,9 @@ mod var;
 pub use atom::{Atom, Cmp};
 pub use condition::{Condition, MAX_ATOMS, MAX_VARS};
 pub use form::{Form, FormTerm};
+pub use gcd::gcd_of;
 pub use key::Key;
-pub use key_atom::{KeyAtom, gcd_of};
+pub use key_atom::KeyAtom;
 pub use limits::fits;
 pub use name::{MAX_NAME, Name, begins_name, continues_name, is_name, is_reserved};
 pub use op::Op;

@@ -1,4 +1,5 @@
 //! Which variables and atoms make a condition.
+
 ghost use Rattle.std.specs.Prelude.{◌≡◌, ◌≢◌, ◌↔◌, ◌<◌, ℕ, IsTrue, All, AllPairs, IfSome};
 ghost use Rattle.lin_model.specs.Conditions.{Fits, NamesBelow, AtomNamesBelow, Differ};
 
@@ -57,6 +58,7 @@ fn atoms_name_below(count: usize, atoms: &[Atom]) -> bool
     true
 }
 
+/// Whether both sides of the atom name only variables below `count`.
 fn atom_names_below(count: usize, atom: &Atom) -> bool
     ensures { IsTrue result ↔ AtomNamesBelow count atom.now }
 {
@@ -66,6 +68,7 @@ fn atom_names_below(count: usize, atom: &Atom) -> bool
     terms_name_below(count, atom.right.terms())
 }
 
+/// Whether the terms name only variables below `count`.
 fn terms_name_below(count: usize, terms: &[Term]) -> bool
     ensures { IsTrue result ↔ NamesBelow count terms.now }
 {

@@ -1,4 +1,5 @@
 //! Names of variables.
+
 ghost use Rattle.std.specs.Prelude.{◌≡◌, ◌↔◌, IsTrue, bytes_eq};
 ghost use Rattle.lin_model.specs.Names.{IsName, is_name_start, is_name_byte, is_reserved};
 
@@ -57,13 +58,14 @@ pub fn continues_name(byte: u8) -> bool
     begins_name(byte) || byte.is_ascii_digit() || byte == b'.'
 }
 
+/// Whether the bytes spell this word.
 fn is_word(bytes: &[u8], word: &str) -> bool
     ensures { result ≡ bytes_eq bytes.now word.now }
 {
     bytes == word.as_bytes()
 }
 
-/// Whether the bytes are one of the words that are no name.
+/// Whether the bytes are one of the eleven reserved words, which are no names.
 pub fn is_reserved(bytes: &[u8]) -> bool
     ensures { result ≡ is_reserved bytes.now }
 {
@@ -80,7 +82,7 @@ pub fn is_reserved(bytes: &[u8]) -> bool
         || is_word(bytes, "mod")
 }
 
-/// Whether the bytes are a name.
+/// Whether the bytes are a name, as `Name::new` asks for one.
 pub fn is_name(bytes: &[u8]) -> bool
     ensures { IsTrue result ↔ IsName bytes.now }
 {

@@ -6,7 +6,7 @@ ghost use Rattle.lin_model.specs.Point.{IsPoint};
 
 use std::marker::Model;
 
-/// At most 64 values, each of size at most 2^32. The value at a place is that of the variable of this number.
+/// A short list of whole numbers: no more than 64, none of them larger than 2^32 in size. Each is the value of the variable whose number is its place, from 0.
 #[derive(Debug, Drop)]
 pub struct Point {
     values: Vec<i64>,

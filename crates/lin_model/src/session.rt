@@ -1,4 +1,5 @@
 //! Sessions: the conditions that each executor asks.
+
 ghost use Rattle.std.specs.Prelude.{◌≡◌};
 ghost use Rattle.lin_model.specs.Conditions.{IsSession};
 

@@ -1,6 +1,6 @@
 //! Terms, and the sides of a comparison.
-ghost use Rattle.std.specs.Prelude.{◌≡◌, ◌↔◌, ◌≤◌, ◌^◌, ◌*◌, length, unsigned_abs, IsTrue, Option, ℕ};
-ghost use Rattle.std.specs.Prelude.{ℤ, ◌+ℤ◌, ◌*ℤ◌, take};
+
+ghost use Rattle.std.specs.Prelude.{◌≡◌, ◌↔◌, ◌≤◌, ◌^◌, ◌*◌, length, unsigned_abs, IsTrue, Option, ℕ, ℤ, ◌+ℤ◌, ◌*ℤ◌, take};
 ghost use Rattle.lin_model.specs.Terms.{PlainTerm, TermFits, ExprFits, term_value, value_of, value_at, weight};
 
 use std::marker::Model;
@@ -14,7 +14,7 @@ pub const MAX_CONSTANT: i64 = 1 << 40;
 /// The most terms that a side has.
 pub const MAX_TERMS: usize = 64;
 
-/// A factor on a variable, of size at most 2^31, or a constant, of size at most 2^40.
+/// One item of a side. With a variable it is a factor, no larger than 2^31 in size; without one it is a constant, for which 2^40 is the limit.
 #[derive(Clone, Copy, Debug)]
 pub struct Term {
     factor: i64,
@@ -34,7 +34,7 @@ impl Model for Term {
 }
 
 impl Term {
-    /// The term of this factor on the variable of this number, or where there is none the constant.
+    /// The term of this factor on the variable of this number, or of this constant where no variable is given.
     pub fn new(factor: i64, var: Option<u32>) -> Term
         requires { TermFits (record { factor = factor; var = var }) }
         ensures { result ≡ record { factor = factor; var = var } }
@@ -96,7 +96,7 @@ impl Expr {
     pub fn value(&self, values: &[i64]) -> i128
         ensures { result ≡ value_of self.now values.now }
     {
-        sum_of(&self.terms, values)
+        value_of(&self.terms, values)
     }
 }
 
@@ -111,21 +111,21 @@ fn weight(var: Option<u32>, values: &[i64]) -> i64
 }
 
 /// The value of one term, of size at most 2^103.
-fn value_of_term(term: &Term, values: &[i64]) -> i128
+fn term_value(term: &Term, values: &[i64]) -> i128
     ensures value { result ≡ term_value term.now values.now }
     ensures small { unsigned_abs result ≤ 2 ^ 103 }
 {
     i128::from(term.factor) * i128::from(weight(term.var, values))
 }
 
-/// The sum of at most 64 terms.
-fn sum_of(terms: &[Term], values: &[i64]) -> i128
+/// The value of at most 64 terms together.
+fn value_of(terms: &[Term], values: &[i64]) -> i128
     requires { length terms.now ≤ 64 }
     ensures { result ≡ value_of terms.now values.now }
 {
     let mut sum = 0;
     for term in terms {
-        sum += value_of_term(term, values);
+        sum += term_value(term, values);
     }
     sum
 }

@@ -1,4 +1,5 @@
 //! Variables with their bounds.
+
 ghost use Rattle.std.specs.Prelude.{◌≡◌, ◌↔◌, IsTrue};
 ghost use Rattle.lin_model.specs.Terms.{PlainVar, VarFits};
 ghost use Rattle.lin_model.specs.Truth.{InBounds};

@@ -1,39 +1,43 @@
+pub mod ListLemmas
 pub mod LineLemmas
 pub mod Positions
-pub mod WordLemmas
-pub mod NamedLemmas
-pub mod NameLemmas
-pub mod SideLemmas
 pub mod Places
-pub mod Shapes
-pub mod Passing
-pub mod Outcomes
-pub mod PositionLemmas
-pub mod Bounds
-pub mod Items
-pub mod Sides
-pub mod AtomLines
-pub mod VarLines
-pub mod QueryLines
-pub mod QueryReads
-pub mod OneFault
-pub mod ReadBackTokens
+pub mod UniqueTokens
+pub mod ReadBackFront
+pub mod NoFault
+mod WordLemmas
+mod IntegerLemmas
+mod NamedLemmas
+mod NameLemmas
+mod SideLemmas
+mod Shapes
+mod Passing
+mod Outcomes
+mod PositionLemmas
+mod Bounds
+mod Items
+mod Sides
+mod AtomLines
+mod VarLines
+mod QueryLines
+mod LinesRead
+mod QueryEnds
+mod FirstFault
+mod QueryReads
+mod OneFault
+mod ReadBackTokens
 mod ReadBackWords
 mod ReadBackSides
 mod ReadBackLines
-pub mod ReadBackFront
 mod ReadBack
-pub mod ReadBackWithin
-pub mod SpelledConditions
-pub mod UniqueTokens
+mod ReadBackWithin
 mod UniqueSides
 mod UniqueTerms
-pub mod Unique
+mod Unique
 mod NoFaultTokens
 mod NoFaultSides
 mod NoFaultLines
 mod NoFaultCompared
 mod NoFaultDeclared
-pub mod NoFault
 mod Longest
-pub mod SpelledOrFault
+mod SpelledOrFault

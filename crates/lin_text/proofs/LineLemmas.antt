@@ -3,18 +3,13 @@ use Rattle.std.proofs.Common.{◌≡◌, ℕ, ◌+◌, ◌<◌, ◌≤◌, min, 
 use Rattle.std.specs.Prelude.{◌||◌, ◌&&◌}
 use Rattle.std.specs.List.{prefix_len}
 use Rattle.std.proofs.lemmas.List.{at_drop_more, at_drop_all, drop-drop, get_or-drop}
-use Rattle.std.proofs.lemmas.List.Sums.{prefix_len_stops}
+use Rattle.std.proofs.lemmas.List.Sums.{prefix_len_stops, prefix_len-le-length}
 use Rattle.std.proofs.lemmas.Bool.Decides.{nat_tests}
 use borrow.Author.Tests.{ltb-true, ltb-false}
 use Rattle.lin_text.specs.Lines.{is_feed, is_in_line, ends_or_comments, is_skipped, first_line, line_from, line_below, StartsLine}
 use Rattle.lin_text.specs.Tokens.{begins_equal, token_length, kind_of, nothing_at, token_of, token_here}
 use Rattle.lin_text.specs.declared.token.TokenKind.{TokenKind}
 use Rattle.lin_text.specs.declared.token.TokenKind.TheVariants.{LineEnd}
-
-pub prefix_len-le : (p : ℕ → Bool) (xs : List ℕ) → prefix_len p xs ≤ length xs
-prefix_len-le p [] = omega arith
-prefix_len-le p (x ∷ xs) =
-    elim (p x) as (λ b. cond b (1 + prefix_len p xs) 0 ≤ length (x ∷ xs)) [ true ↦ omega (arith, prefix_len-le p xs) | false ↦ omega arith ]
 
 -- a run goes on at a place, or ends there
 pub prefix_len-step : (p : ℕ → Bool) (xs : List ℕ) (i : ℕ) → i < length xs → prefix_len p (drop i xs) ≡ cond (p (get_or xs i 0)) (1 + prefix_len p (drop (i + 1) xs)) 0
@@ -23,7 +18,7 @@ prefix_len-step p xs i lt = at_drop_more (prefix_len p) xs i 0 lt
 pub prefix_len-end : (p : ℕ → Bool) (xs : List ℕ) (i : ℕ) → length xs ≤ i → prefix_len p (drop i xs) ≡ 0
 prefix_len-end p xs i le = at_drop_all (prefix_len p) xs i le
 
-pub ruleset runs = (prefix_len-step, prefix_len-end, prefix_len-le)
+pub ruleset runs = (prefix_len-step, prefix_len-end, prefix_len-le-length)
 
 pub ends_or_comments-first : (xs : List ℕ) → 0 < length xs → ends_or_comments xs ≡ (is_feed (get_or xs 0 0) || nat_eq (get_or xs 0 0) 35)
 ends_or_comments-first [] lt = absurd (omega arith)
@@ -103,7 +98,7 @@ not_in_line b e = grind (arith, nat_tests)
 pub line_below_starts : (bytes : List ℕ) (at : ℕ) → at ≤ length bytes → StartsLine bytes (line_below bytes at)
 line_below_starts bytes at within =
     let n : ℕ = prefix_len is_in_line (drop at bytes) in
-    let most : n ≤ length (drop at bytes) = prefix_len-le is_in_line (drop at bytes) in
+    let most : n ≤ length (drop at bytes) = prefix_len-le-length is_in_line (drop at bytes) in
     elim (nat_lt (at + n) (length bytes)) as (λ b. nat_lt (at + n) (length bytes) ≡ b → StartsLine bytes (line_below bytes at)) [
       | true ↦ λ e.
           let lt : at + n < length bytes = ltb-true (at + n) (length bytes) e in

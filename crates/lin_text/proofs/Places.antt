@@ -1,8 +1,8 @@
 -- Where one stands in a line behind some of its tokens, and that what can come next is what the grammar lets come.
 use Rattle.std.proofs.Common.{◌≡◌, ℕ, ◌+◌, suc, Bool, true, false, List, [], ◌∷◌, ◌++◌, length, Option, Some, None, refl, sym, ap, ◌∙◌, append_assoc, arith}
 use Rattle.std.specs.Prelude.{flat_map, option_and_then}
-use Rattle.lin_text.specs.Pieces.{Piece, var, name, number, plus, minus, times, compare, line_end}
-use Rattle.lin_text.specs.Grammar.{Quantity, constant, multiple, single, Item, Joined, Side, Line, declaration, comparison, sign, quantity_pieces, item_pieces, joint, joined_pieces, side_pieces, item_count, line_pieces, BeginsLine}
+use Rattle.lin_text.specs.Pieces.{Piece, var, word, name, number, plus, minus, times, compare, line_end}
+use Rattle.lin_text.specs.Grammar.{constant, multiple, single, Item, Joined, Side, Line, declaration, comparison, sign, quantity_pieces, item_pieces, joint, joined_pieces, side_pieces, item_count, line_pieces, BeginsLine}
 
 -- On the left or the right side: before an item, behind a minus of its own, behind an item and whether it is a number alone, behind a number and `*`. The number counts the items of the side.
 pub data Place : Type 0 where
@@ -61,10 +61,6 @@ run s [] = Some s
 run s (p ∷ ps) = option_and_then (λ t. run t ps) (next s p)
 
 -- every line is run through
-
-is_constant : Quantity → Bool
-is_constant (constant n) = true
-is_constant _ = false
 
 run-item : (l : Bool) (n : ℕ) (i : Item) (ps : List Piece) → (bare : Bool) × (run (item l n) (item_pieces i ++ ps) ≡ run (after l (suc n) bare) ps)
 run-item l n i ps =
@@ -159,3 +155,30 @@ run-append s (p ∷ ps) qs u e =
       | None ↦ λ h. absurd (cc)
       | Some v ↦ λ h. run-append v ps qs u h
     ] e
+
+-- a reserved word but `var` stands in no line
+
+next-word : (s : Place) (w : List ℕ) → next s (word w) ≡ None
+next-word start w = refl
+next-word var_name w = refl
+next-word low w = refl
+next-word low_number w = refl
+next-word high w = refl
+next-word high_number w = refl
+next-word var_end w = refl
+next-word (item l n) w = refl
+next-word (size l n) w = refl
+next-word (after true n true) w = refl
+next-word (after true n false) w = refl
+next-word (after false n true) w = refl
+next-word (after false n false) w = refl
+next-word (factor l n) w = refl
+next-word done w = refl
+
+pub word-begins_no_line : (front : List Piece) (w : List ℕ) → ¬ BeginsLine (front ++ word w ∷ [])
+word-begins_no_line front w = λ b.
+    let r = run-BeginsLine (front ++ word w ∷ []) b in
+    let f = run-front start r.0 front (word w ∷ []) r.1 in
+    let none : run f.0 (word w ∷ []) ≡ None = ap (λ (o : Option Place). option_and_then (λ t. run t []) o) (next-word f.0 w) in
+    let no_place : Some r.0 ≡ None = sym f.2 ∙ none in
+    cc

@@ -4,6 +4,7 @@ use Rattle.std.specs.Prelude.{◌&&◌, MatchBool, slice_range}
 use Rattle.std.specs.List.{prefix_len}
 use Rattle.std.proofs.lemmas.List.{drop-drop}
 use Rattle.std.proofs.lemmas.Bool.Decides.{nat_tests}
+use Rattle.std.proofs.lemmas.List.Sums.{prefix_len-le-length}
 use borrow.Author.Tests.{ltb-true, ltb-false}
 use Rattle.lin_model.specs.Names.{is_name_start, is_name_byte, is_digit}
 use Rattle.lin_text.specs.declared.token.Token.{Token}
@@ -12,7 +13,6 @@ use Rattle.lin_text.specs.declared.token.TokenKind.TheVariants as kinds
 use Rattle.lin_text.specs.Lines.{is_feed, is_in_line, is_blank, line_end, line_below, line_from, first_line, is_skipped}
 use Rattle.lin_text.specs.Tokens.{token_length, symbol_length, begins_pair, begins_equal, is_symbol, kind_of, nothing_at, token_of, token_here, token_from}
 use Rattle.lin_text.specs.Pieces.{PlainToken, PlainLine, plain_token, first_token, is_last, AreTokens, AreLines, piece_of}
-use Rattle.lin_text.proofs.LineLemmas.{prefix_len-le}
 
 -- a run of bytes of a sort is no longer than one of a wider sort
 prefix_len-mono : (p q : ℕ → Bool) → ((b : ℕ) → p b ≡ true → q b ≡ true) → (xs : List ℕ) → prefix_len p xs ≤ prefix_len q xs
@@ -152,7 +152,7 @@ first_token-ahead p bytes at =
 
 -- the end of a line is no further than the end of the input
 line_end-within : (bytes : List ℕ) (at : ℕ) → at ≤ length bytes → line_end bytes at ≤ length bytes
-line_end-within bytes at le = omega (arith, prefix_len-le is_in_line (drop at bytes), length-drop at bytes)
+line_end-within bytes at le = omega (arith, prefix_len-le-length is_in_line (drop at bytes), length-drop at bytes)
 
 -- every place has tokens
 pub tokens_total : (n : ℕ) (p : Bool) (bytes : List ℕ) (at : ℕ) → at ≤ length bytes → length bytes - at < n → (ts : List PlainToken) × AreTokens p bytes at ts

@@ -2,9 +2,9 @@
 use Rattle.std.proofs.Common.{◌≡◌, ℕ, ◌+◌, ◌-◌, ◌<◌, Bool, false, cond, List, [], ◌∷◌, ◌++◌, length, take, drop, refl, sym, ap, subst, ◌∙◌, arith, All, IsTrue, length-append}
 use Rattle.std.specs.Prelude.{◌||◌, ◌==◌, slice_range, MatchBool}
 use Rattle.std.specs.List.{prefix_len}
-use Rattle.std.proofs.Math.Seq.{take-append_seam, drop-append_seam, drop-append-add}
-use Rattle.std.proofs.lemmas.List.{drop-drop}
+use Rattle.std.proofs.Math.Seq.{take-append_seam, drop-append-add}
 use Rattle.std.proofs.lemmas.List.Elements.{All-head, All-tail}
+use Rattle.lin_text.proofs.ListLemmas.{drop-behind}
 use Rattle.lin_text.specs.Lines.{is_feed, is_in_line, is_blank, is_skipped, ends_or_comments}
 use Rattle.lin_text.specs.Tokens.{token_from, token_here, token_of, token_length, kind_of}
 use Rattle.lin_text.specs.declared.token.TokenKind.{TokenKind}
@@ -34,9 +34,6 @@ prefix_len-all p [] ys all = omega arith
 prefix_len-all p (x ∷ xs) ys all =
     ap (λ (b : Bool). cond b (1 + prefix_len p (xs ++ ys)) 0) (All-head (λ b. IsTrue (p b)) x xs all)
     ∙ omega (arith, prefix_len-all p xs ys (All-tail (λ b. IsTrue (p b)) x xs all))
-
-pub drop-behind : (bytes : List ℕ) (at : ℕ) (xs ys : List ℕ) → drop at bytes ≡ xs ++ ys → drop (at + length xs) bytes ≡ ys
-drop-behind bytes at xs ys e = sym (drop-drop (length xs) at bytes) ∙ (ap (λ (zs : List ℕ). drop (length xs) zs) e ∙ drop-append_seam xs ys)
 
 slice_range-front : (bytes : List ℕ) (at : ℕ) (xs ys : List ℕ) → drop at bytes ≡ xs ++ ys → slice_range bytes at (at + length xs) ≡ xs
 slice_range-front bytes at xs ys e =

@@ -1,6 +1,5 @@
 -- The plain spelling of a condition within a text.
 use Rattle.std.proofs.Common.{◌≡◌, ℕ, ◌+◌, ◌<◌, suc, Bool, true, false, cond, not, List, [], ◌∷◌, ◌++◌, length, drop, refl, sym, ap, subst, ◌∙◌, arith, inl, inr, length-drop, length-append}
-use Rattle.std.specs.Prelude.{codes}
 use Rattle.std.specs.List.{prefix_len}
 use Rattle.std.proofs.Math.Seq.{drop-append_seam}
 use Rattle.std.proofs.lemmas.List.Sums.{take_while-cons}
@@ -8,8 +7,7 @@ use Rattle.lin_model.specs.Terms.{PlainVar}
 use Rattle.lin_model.specs.Conditions.{PlainCondition, IsCondition}
 use Rattle.lin_text.specs.Spelling.{condition_text}
 use Rattle.lin_text.specs.Lines.{is_skipped, line_from, line_below}
-use Rattle.lin_text.specs.Tokens.{token_from, token_here, token_length}
-use Rattle.lin_text.specs.Pieces.{Piece, word, PlainToken, PlainLine, plain_token, piece_of, name_piece, first_token, pieces, AreTokens, AreLines}
+use Rattle.lin_text.specs.Pieces.{Piece, word, PlainToken, PlainLine, first_token, pieces, AreTokens, AreLines}
 use Rattle.lin_text.specs.Queries.{begins_word, is_of_query, query_lines, start_of, query_end, AreDeclaredAndCompared, Spells}
 use Rattle.lin_text.specs.Laws.{EndsQuery}
 use Rattle.lin_text.proofs.LineLemmas.{line_from-here}
@@ -68,17 +66,3 @@ Spells-within front rest q is ends =
     let long : length bytes ≡ length front + (length (condition_text q) + length rest) = omega (arith, length-append front (condition_text q ++ rest), length-append (condition_text q) rest) in
     let w = walk_condition bytes rest q end is (goes_on_behind bytes rest q.vars end ends (omega (arith, long))) (length front) (omega (arith, long)) (drop-append_seam front (condition_text q ++ rest)) in
     record { lines = w.lines; are = w.are; spelled = record { meaning = w.meant; fits = is.fits }; ends = w.ends }
-
--- the words behind a query of a session
-
-pub EndsQuery-query : (more : List ℕ) → EndsQuery (codes "query\n" ++ more)
-unfolding token_from token_here token_length plain_token piece_of name_piece
-EndsQuery-query more = inr (codes "query", refl)
-
-pub EndsQuery-executor : (more : List ℕ) → EndsQuery (codes "executor\n" ++ more)
-unfolding token_from token_here token_length plain_token piece_of name_piece
-EndsQuery-executor more = inr (codes "executor", refl)
-
-pub EndsQuery-end : (more : List ℕ) → EndsQuery (codes "end\n" ++ more)
-unfolding token_from token_here token_length plain_token piece_of name_piece
-EndsQuery-end more = inr (codes "end", refl)

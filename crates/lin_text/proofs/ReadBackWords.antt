@@ -57,10 +57,6 @@ left-false : (a b : Bool) → (a || b) ≡ false → a ≡ false
 left-false true b e = e
 left-false false b e = refl
 
-right-false : (a b : Bool) → (a || b) ≡ false → b ≡ false
-right-false true b e = absurd (cc)
-right-false false b e = e
-
 refuted : (text : List ℕ) → is_reserved text ≡ false → (b : Bool) → Decides b (text ≡ codes "var") → b ≡ false
 refuted text e true same = absurd (let no : true ≡ false = sym (ap is_reserved (same.0 refl)) ∙ e in cc)
 refuted text e false differs = refl

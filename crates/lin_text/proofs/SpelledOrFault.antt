@@ -18,7 +18,10 @@ use Rattle.lin_text.specs.Queries.{Spells, HasFault}
 use Rattle.lin_text.specs.Reading.{lexeme_at, is_word_class, line_at}
 use Rattle.lin_text.proofs.Positions.{first_line-bounds}
 use Rattle.lin_text.proofs.QueryLines.{IsClean}
-use Rattle.lin_text.proofs.QueryReads.{AreClean, ReadTo, read_none, in_range, clean_stands, count-push, spelled_at_end, at_line, at_word, at_error}
+use Rattle.lin_text.proofs.LinesRead.{AreClean, count-push, ReadTo, read_none}
+use Rattle.lin_text.proofs.QueryEnds.{in_range, spelled_at_end}
+use Rattle.lin_text.proofs.FirstFault.{clean_stands}
+use Rattle.lin_text.proofs.QueryReads.{at_line, at_word, at_error}
 
 is_var : (r : Piece) (rs : List Piece) → begins_variable (r ∷ rs) ≡ true → r ≡ var
 is_var var rs e = refl

@@ -188,10 +188,6 @@ low_small : (negative : Bool) (n : ℕ) (q : Piece) (qs rest : List Piece) → q
 low_small true n q qs rest e m is = let no : minus ≡ number m = cc in absurd (cc)
 low_small false n q qs rest e m is = cc
 
-low_name : (negative : Bool) (n : ℕ) (q : Piece) (qs rest : List Piece) → q ∷ qs ≡ (sign negative ++ number n ∷ []) ++ rest → (x : List ℕ) → q ≡ name x → ⊥
-low_name true n q qs rest e x is = let no : minus ≡ name x = cc in cc
-low_name false n q qs rest e x is = let no : number n ≡ name x = cc in cc
-
 left-nil : (xs ys : List Piece) → xs ++ ys ≡ [] → xs ≡ []
 left-nil [] ys e = refl
 left-nil (x ∷ xs) ys e = absurd (cc)

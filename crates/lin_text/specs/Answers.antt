@@ -25,5 +25,6 @@ pub record IsMemoryFault (f : TextFault) : Type 0 where
   pub line : f.line ≡ 0
   pub column : f.column ≡ 0
 
+-- the fault that is told: want of memory, or the fault of the query
 abbrev pub IsFault : Bool → List ℕ → ℕ → TextFault → Type 0
 IsFault in_proof bytes at f = IsMemoryFault f ⊎ IsPlaced in_proof bytes at f

@@ -5,6 +5,7 @@ use Rattle.lin_text.specs.declared.class.Class.TheVariants.{Var, Word, Name, Num
 use Rattle.lin_text.specs.declared.class.Lexeme.{Lexeme}
 use Rattle.lin_text.specs.Pieces.{Piece, var, word, name, number, plus, minus, times, compare, bad, line_end, PlainToken}
 
+-- the class of a token; a number beyond every limit is shown as 2^40 + 1
 abbrev pub class_of : Piece → Class
 class_of var = Var
 class_of (word w) = Word
@@ -17,5 +18,6 @@ class_of (compare cmp) = Compare cmp
 class_of bad = Bad
 class_of line_end = LineEnd
 
+-- a token as the reader sees it
 abbrev pub shown : PlainToken → Lexeme
 shown t = record { class = class_of t.piece; from = t.from; to = t.to }

@@ -24,12 +24,14 @@ abbrev pub begins_comparison : List Piece → Bool
 begins_comparison [] = false
 begins_comparison (p ∷ ps) = begins_atom p
 
+-- a token with which an item begins
 abbrev pub begins_item : Piece → Bool
 begins_item minus = true
 begins_item (number n) = true
 begins_item (name x) = true
 begins_item _ = false
 
+-- a `*` comes next
 abbrev pub begins_times : List Piece → Bool
 begins_times (times ∷ ps) = true
 begins_times _ = false
@@ -43,9 +45,11 @@ declared_name _ = []
 abbrev pub declared_names : List PlainLine → List (List ℕ)
 declared_names = flat_map (λ line. declared_name (pieces line.tokens))
 
+-- how many lines declare variables
 abbrev pub variable_count : List PlainLine → ℕ
 variable_count = count_by (λ line. begins_variable (pieces line.tokens))
 
+-- how many lines are comparisons for the limit
 abbrev pub atom_count : List PlainLine → ℕ
 atom_count = count_by (λ line. begins_comparison (pieces line.tokens))
 

@@ -36,26 +36,33 @@ pub data Line : Type 0 where
   declaration : List ℕ → Integer → Integer → Line
   comparison : Side → Cmp → Side → Line
 
+-- a minus, or nothing
 abbrev pub sign : Bool → List Piece
 sign negative = if negative then minus ∷ [] else []
 
+-- the tokens of an integer
 abbrev pub integer_pieces : Integer → List Piece
 integer_pieces i = sign i.negative ++ number i.size ∷ []
 
+-- the tokens of a quantity
 abbrev pub quantity_pieces : Quantity → List Piece
 quantity_pieces (constant n) = number n ∷ []
 quantity_pieces (multiple n x) = number n ∷ times ∷ name x ∷ []
 quantity_pieces (single x) = name x ∷ []
 
+-- the tokens of an item
 abbrev pub item_pieces : Item → List Piece
 item_pieces i = sign i.negative ++ quantity_pieces i.quantity
 
+-- the sign that joins an item to those before it
 abbrev pub joint : Bool → Piece
 joint subtracted = if subtracted then minus else plus
 
+-- the tokens of a joined item
 abbrev pub joined_pieces : Joined → List Piece
 joined_pieces j = joint j.subtracted ∷ item_pieces j.item
 
+-- the tokens of a side
 unfoldable pub side_pieces : Side → List Piece
 side_pieces s = item_pieces s.first ++ flat_map joined_pieces s.later
 
@@ -74,19 +81,21 @@ pub record BeginsLine (ps : List Piece) : Type 0 where
   pub more : List Piece
   pub written : line_pieces line ≡ ps ++ more
 
+-- the number, negated or not
 abbrev pub signed : Bool → ℕ → ℤ
 signed negative n = if negative then neg_ℤ (pos n) else pos n
 
+-- the number that an integer means
 abbrev pub integer_value : Integer → ℤ
 integer_value i = signed i.negative i.size
 
--- the number, 1 for a bare name
+-- the number that is written; where a name stands alone, 1
 abbrev pub quantity_size : Quantity → ℕ
 quantity_size (constant n) = n
 quantity_size (multiple n x) = n
 quantity_size (single x) = 1
 
--- the number, negated once for a minus of its own and once for the minus before it
+-- the size with its sign: a `-` of the item's own turns it round, and so does one that joins the item
 abbrev pub factor_of : Bool → Item → ℤ
 factor_of subtracted i = signed subtracted 1 *ℤ signed i.negative (quantity_size i.quantity)
 
@@ -102,6 +111,7 @@ pub record IsTerm (names : List (List ℕ)) (subtracted : Bool) (i : Item) (term
   pub on : IsOn names i.quantity term.var
   pub fits : TermFits term
 
+-- the items are these terms, one for each in order
 abbrev pub AreTerms : List (List ℕ) → List Joined → List PlainTerm → Type 0
 AreTerms names [] terms = terms ≡ []
 AreTerms names (j ∷ js) [] = ⊥

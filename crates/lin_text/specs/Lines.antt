@@ -6,6 +6,7 @@ use Rattle.std.specs.List.{prefix_len, suffix_len}
 abbrev pub is_feed : ℕ → Bool
 is_feed b = b == 10
 
+-- a byte that doesn't end the line
 abbrev pub is_in_line : ℕ → Bool
 is_in_line b = not (is_feed b)
 
@@ -13,11 +14,11 @@ is_in_line b = not (is_feed b)
 abbrev pub is_blank : ℕ → Bool
 is_blank b = b == 32 || b == 9 || b == 13
 
--- 1 plus the number of line feeds before the place
+-- how many line feeds stand before the place, and 1
 abbrev pub line_number : List ℕ → ℕ → ℕ
 line_number bytes at = 1 + count_by is_feed (take at bytes)
 
--- 1 plus the number of bytes between the last line feed before the place, or the start, and the place
+-- how many bytes of its line stand before the place, and 1
 abbrev pub column : List ℕ → ℕ → ℕ
 column bytes at = 1 + suffix_len is_in_line (take at bytes)
 

@@ -30,6 +30,7 @@ is_claim_word text = bytes_eq text (codes "answer") || bytes_eq text (codes "cor
 abbrev pub is_word : Bool → List ℕ → Bool
 is_word in_proof text = is_reserved text || (in_proof && is_claim_word text)
 
+-- what a name or a word is
 unfoldable pub name_piece : Bool → List ℕ → Piece
 name_piece in_proof text = if bytes_eq text (codes "var") then var else (if is_word in_proof text then word text else name text)
 
@@ -42,6 +43,7 @@ comparison_of text =
     (if bytes_eq text (codes ">") then Gt else
     (if bytes_eq text (codes "!=") then Ne else Eq))))
 
+-- what a symbol is
 unfoldable pub symbol_piece : List ℕ → Piece
 symbol_piece text =
     if bytes_eq text (codes "+") then plus else
@@ -52,6 +54,7 @@ symbol_piece text =
 abbrev pub number_of : List ℕ → ℕ
 number_of = fold (λ n digit. 10 * n + (digit - 48)) 0
 
+-- what a token of this kind and with these bytes is
 unfoldable pub piece_of : Bool → TokenKind → List ℕ → Piece
 piece_of in_proof Name text = name_piece in_proof text
 piece_of in_proof Number text = number (number_of text)
@@ -65,6 +68,7 @@ pub record PlainToken : Type 0 where
   pub to : ℕ
   pub piece : Piece
 
+-- a token of a text, with what it is
 unfoldable pub plain_token : Bool → List ℕ → Token → PlainToken
 plain_token in_proof bytes t = record { from = t.from; to = t.to; piece = piece_of in_proof t.kind (slice_range bytes t.from t.to) }
 
@@ -88,6 +92,7 @@ pub record PlainLine : Type 0 where
   pub start : ℕ
   pub tokens : List PlainToken
 
+-- what each token is
 abbrev pub pieces : List PlainToken → List Piece
 pieces = map (λ t. t.piece)
 

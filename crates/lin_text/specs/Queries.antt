@@ -9,6 +9,7 @@ use Rattle.lin_text.specs.Pieces.{Piece, word, PlainLine, pieces, AreLines}
 use Rattle.lin_text.specs.Grammar.{Declares, Compares}
 use Rattle.lin_text.specs.Faults.{IsFirstFault}
 
+-- the first token is a reserved word other than `var`
 abbrev pub begins_word : List Piece → Bool
 begins_word (word w ∷ ps) = true
 begins_word _ = false
@@ -17,6 +18,7 @@ begins_word _ = false
 abbrev pub is_of_query : PlainLine → Bool
 is_of_query line = not (begins_word (pieces line.tokens))
 
+-- the lines at the front that belong to the query
 abbrev pub query_lines : List PlainLine → List PlainLine
 query_lines = take_while is_of_query
 
@@ -29,6 +31,7 @@ start_of bytes (line ∷ lines) = line.start
 abbrev pub query_end : List ℕ → List PlainLine → ℕ
 query_end bytes lines = start_of bytes (drop (prefix_len is_of_query lines) lines)
 
+-- the names of variables, in order
 abbrev pub names_of : List PlainVar → List (List ℕ)
 names_of = map (λ v. v.name)
 

@@ -17,6 +17,7 @@ use Rattle.lin_text.specs.Classes.{shown}
 use Rattle.lin_text.specs.Grammar.{signed}
 use Rattle.lin_text.specs.Queries.{names_of}
 
+-- goes on with a value, and hands on a fault
 infixl 10 ◌>>=◌
 abbrev pub ◌>>=◌ : {A B : Type 0} → Result A Fault → (A → Result B Fault) → Result B Fault
 (Ok x) >>= f = f x
@@ -28,12 +29,15 @@ Gives (Ok x) read = read ≡ Ok x
 Gives (Err errors.Memory) read = Unit {0}
 Gives (Err (errors.Fault f)) read = read ≡ Err f
 
+-- the first token from a place on, as the reader sees it
 abbrev pub lexeme_at : Bool → List ℕ → ℕ → Lexeme
 lexeme_at in_proof bytes at = shown (first_token in_proof bytes at)
 
+-- a fault of the kind, at the place
 abbrev pub fault_at : TextKind → ℕ → Fault
 fault_at kind at = record { kind = kind; at = at }
 
+-- the kind where a token can't come next
 abbrev pub refusal_kind : Class → TextKind
 refusal_kind Bad = Token
 refusal_kind _ = Syntax
@@ -42,6 +46,7 @@ refusal_kind _ = Syntax
 abbrev pub refusal : Lexeme → Fault
 refusal l = fault_at (refusal_kind l.class) l.from
 
+-- the number of a bound, by the class of its token
 abbrev pub bound_by : Class → Lexeme → Result (ℤ × ℕ) Fault
 bound_by (Number n) l = if nat_lt (2 ^ 31) n then Err (fault_at NumberTooLarge l.from) else Ok (pos n, l.to)
 bound_by _ l = Err (refusal l)
@@ -50,6 +55,7 @@ bound_by _ l = Err (refusal l)
 unfoldable pub bound_of : Lexeme → Result (ℤ × ℕ) Fault
 bound_of l = bound_by l.class l
 
+-- a `-`
 abbrev pub is_minus : Class → Bool
 is_minus Minus = true
 is_minus _ = false
@@ -60,10 +66,12 @@ integer_at p bytes at =
     let l = lexeme_at p bytes at in
     if is_minus l.class then (bound_of (lexeme_at p bytes l.to) >>= λ n. Ok (neg_ℤ n.0, n.1)) else bound_of l
 
+-- a name
 abbrev pub is_name_class : Class → Bool
 is_name_class Name = true
 is_name_class _ = false
 
+-- which of the names the token is, from 0
 abbrev pub number_in : List (List ℕ) → List ℕ → Lexeme → Option ℕ
 number_in names bytes l = position (bytes_eq (slice_range bytes l.from l.to)) names
 
@@ -80,6 +88,7 @@ range_at p bytes at =
     integer_at p bytes lo.1 >>= λ hi.
     if int_lt hi.0 lo.0 then Err (fault_at EmptyRange (lexeme_at p bytes at).from) else Ok (lo.0, hi.0, hi.1)
 
+-- the line's end
 abbrev pub is_end_class : Class → Bool
 is_end_class LineEnd = true
 is_end_class _ = false
@@ -87,13 +96,6 @@ is_end_class _ = false
 -- the end of the line
 unfoldable pub end_at : Bool → List ℕ → ℕ → Result (Unit {0}) Fault
 end_at p bytes at = let l = lexeme_at p bytes at in if is_end_class l.class then Ok tt else Err (refusal l)
-
--- where a declared name stands, and its bounds
-pub record Declared : Type 0 where
-  pub from : ℕ
-  pub to : ℕ
-  pub lo : ℤ
-  pub hi : ℤ
 
 -- a declaration behind the word `var`
 unfoldable pub declaration_at : Bool → List ℕ → List (List ℕ) → ℕ → Result (ℕ × ℕ × ℤ × ℤ) Fault
@@ -103,6 +105,7 @@ declaration_at p bytes names at =
     end_at p bytes range.2 >>= λ _.
     Ok (name.0, name.1, range.0, range.1)
 
+-- the term on the variable of this number
 abbrev pub variable_by : Option ℕ → Lexeme → ℤ → Result (PlainTerm × ℕ) Fault
 variable_by None l factor = Err (fault_at UnknownName l.from)
 variable_by (Some v) l factor = Ok (record { factor = factor; var = Some v }, l.to)
@@ -111,6 +114,7 @@ variable_by (Some v) l factor = Ok (record { factor = factor; var = Some v }, l.
 unfoldable pub variable_of : List ℕ → List (List ℕ) → Lexeme → ℤ → Result (PlainTerm × ℕ) Fault
 variable_of bytes names l factor = if is_name_class l.class then variable_by (number_in names bytes l) l factor else Err (refusal l)
 
+-- a `*`
 abbrev pub is_times : Class → Bool
 is_times Times = true
 is_times _ = false
@@ -123,6 +127,7 @@ number_at p bytes names negative l n =
     then (if nat_lt (2 ^ 31) n then Err (fault_at NumberTooLarge l.from) else variable_of bytes names (lexeme_at p bytes next.to) (signed negative n))
     else (if nat_lt (2 ^ 40) n then Err (fault_at NumberTooLarge l.from) else Ok (record { factor = signed negative n; var = None }, l.to))
 
+-- an item without the minus of its own, by the class of its first token
 abbrev pub quantity_by : Class → Bool → List ℕ → List (List ℕ) → Bool → Lexeme → Result (PlainTerm × ℕ) Fault
 quantity_by Name p bytes names negative l = variable_of bytes names l (signed negative 1)
 quantity_by (Number n) p bytes names negative l = number_at p bytes names negative l n
@@ -138,6 +143,7 @@ item_at p bytes names subtracted at =
     let l = lexeme_at p bytes at in
     if is_minus l.class then quantity_at p bytes names (not subtracted) (lexeme_at p bytes l.to) else quantity_at p bytes names subtracted l
 
+-- a token with which an item begins
 abbrev pub begins_item_class : Class → Bool
 begins_item_class Minus = true
 begins_item_class (Number n) = true
@@ -148,6 +154,7 @@ begins_item_class _ = false
 unfoldable pub full_at : Lexeme → Fault
 full_at l = if begins_item_class l.class then fault_at TooManyTerms l.from else refusal l
 
+-- a sign behind which another item comes
 abbrev pub is_joint : Class → Bool
 is_joint Plus = true
 is_joint Minus = true
@@ -167,10 +174,12 @@ items_at (suc n) p bytes names subtracted at =
 unfoldable pub side_at : Bool → List ℕ → List (List ℕ) → ℕ → Result (List PlainTerm × ℕ) Fault
 side_at p bytes names at = items_at 64 p bytes names false at
 
+-- how two sides compare, by the class of the token
 abbrev pub comparison_by : Class → Lexeme → Result (Cmp × ℕ) Fault
 comparison_by (Compare cmp) l = Ok (cmp, l.to)
 comparison_by _ l = Err (refusal l)
 
+-- how two sides compare
 unfoldable pub comparison_at : Bool → List ℕ → ℕ → Result (Cmp × ℕ) Fault
 comparison_at p bytes at = let l = lexeme_at p bytes at in comparison_by l.class l
 
@@ -187,14 +196,17 @@ atom_at p bytes names at =
 unfoldable pub variable_at : Bool → List ℕ → List (List ℕ) → ℕ → Result PlainVar Fault
 variable_at p bytes names at = declaration_at p bytes names at >>= λ d. Ok (record { name = slice_range bytes d.0 d.1; lo = d.2; hi = d.3 })
 
+-- the word `var`
 abbrev pub is_var_class : Class → Bool
 is_var_class Var = true
 is_var_class _ = false
 
+-- another reserved word
 abbrev pub is_word_class : Class → Bool
 is_word_class Word = true
 is_word_class _ = false
 
+-- a token with which a comparison begins for the limit
 abbrev pub begins_atom_class : Class → Bool
 begins_atom_class Var = false
 begins_atom_class Word = false

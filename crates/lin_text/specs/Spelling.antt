@@ -1,4 +1,4 @@
--- The plain spelling: the one text that is written for a condition and for a session.
+-- The plain spelling: the one text that is written for a condition.
 use Rattle.std.specs.Prelude.{ℕ, Bool, true, false, if◌then◌else◌, ◌==◌, List, [], ◌∷◌, ◌++◌, map, flat_map, slice_index_or, ℤ, pos, negsuc, unsigned_abs, Option, Some, None, decimal, codes}
 use Rattle.lin_model.specs.Terms.{PlainVar, PlainTerm}
 use Rattle.lin_model.specs.Conditions.{PlainCondition}
@@ -6,6 +6,7 @@ use Rattle.lin_model.specs.declared.atom.Atom.{Atom}
 use Rattle.lin_model.specs.declared.atom.Cmp.{Cmp}
 use Rattle.lin_model.specs.declared.atom.Cmp.TheVariants.{Le, Lt, Ge, Gt, Eq, Ne}
 
+-- the number is below 0
 abbrev pub is_negative : ℤ → Bool
 is_negative (pos n) = false
 is_negative (negsuc n) = true
@@ -76,13 +77,3 @@ line text = text ++ 10 ∷ []
 -- all declarations, and then all comparisons, each on a line of its own
 unfoldable pub condition_text : PlainCondition → List ℕ
 condition_text q = flat_map (λ var. line (var_text var)) q.vars ++ flat_map (λ atom. line (atom_text q.vars atom)) q.atoms
-
-unfoldable pub query_text : PlainCondition → List ℕ
-query_text q = line (codes "query") ++ condition_text q
-
-unfoldable pub executor_text : List PlainCondition → List ℕ
-executor_text queries = line (codes "executor") ++ flat_map query_text queries
-
--- the whole session
-unfoldable pub session_text : List (List PlainCondition) → List ℕ
-session_text executors = line (codes "green 1") ++ flat_map executor_text executors ++ line (codes "end")

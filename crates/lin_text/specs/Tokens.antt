@@ -18,6 +18,7 @@ pub record IsNumberForm (text : List ℕ) : Type 0 where
   pub some : 1 ≤ length text
   pub digits : All (λ b. IsTrue (is_digit b)) text
 
+-- the symbols
 abbrev pub symbols : List (List ℕ)
 symbols =
     codes "+" ∷ codes "-" ∷ codes "*" ∷ codes "<=" ∷ codes "<" ∷ codes ">=" ∷ codes ">" ∷ codes "=" ∷ codes "==" ∷ codes "!=" ∷ []
@@ -36,6 +37,7 @@ pub record IsLongest (bytes : List ℕ) (n : ℕ) : Type 0 where
 abbrev pub begins_pair : ℕ → Bool
 begins_pair b = b == 60 || b == 62 || b == 61 || b == 33
 
+-- a `=` comes next
 abbrev pub begins_equal : List ℕ → Bool
 begins_equal [] = false
 begins_equal (b ∷ bs) = b == 61
@@ -44,6 +46,7 @@ begins_equal (b ∷ bs) = b == 61
 abbrev pub is_symbol : ℕ → Bool
 is_symbol b = b == 43 || b == 45 || b == 42 || b == 60 || b == 62 || b == 61
 
+-- how long the symbol is that begins with the byte and goes on with the bytes; 0 where there is none
 abbrev pub symbol_length : ℕ → List ℕ → ℕ
 symbol_length b bs = if begins_pair b && begins_equal bs then 2 else (if is_symbol b then 1 else 0)
 
@@ -62,6 +65,7 @@ kind_of b n =
 abbrev pub nothing_at : TokenKind → ℕ → Token
 nothing_at kind at = record { kind = kind; from = at; to = at }
 
+-- the token of this kind and length at a place
 abbrev pub token_of : TokenKind → ℕ → ℕ → Token
 token_of Bad at n = nothing_at Bad at
 token_of kind at n = record { kind = kind; from = at; to = at + n }

@@ -44,9 +44,9 @@ pub fn first_line(bytes: &[u8], at: usize) -> usize
     start
 }
 
-/// The start of the first line from `at` that isn't skipped, or the input's length where there is none.
-/// A line with blanks alone and a line whose first byte that isn't blank is `#` are skipped. A line ends
-/// with a line feed or with the input.
+/// Where, from `at` on, the next line begins that isn't skipped; the input's length, where only skipped
+/// lines come. Lines of blanks are skipped, and comments: lines on which a `#` stands first or behind
+/// blanks. A line feed ends a line, and so does the input's end.
 pub fn next_line(bytes: &[u8], at: usize) -> usize
     requires { StartsLine bytes.now at }
     ensures start { result ≡ line_from bytes.now at }

@@ -1,5 +1,5 @@
 //! The names that a query declares, in order.
-ghost use Rattle.std.specs.Prelude.{◌≡◌, ◌++◌, ◌∷◌, [], None, OnOk, OnErr, IfSome, ◌<◌, length, position, bytes_eq};
+ghost use Rattle.std.specs.Prelude.{◌≡◌, ◌++◌, ◌∷◌, [], None, OnErr, OnOk, IfSome, ◌<◌, length, position, bytes_eq};
 
 use indexmap::IndexSet;
 use outside::NoMemory;
@@ -37,10 +37,11 @@ impl Names {
         self.set.get_index_of(name)
     }
 
-    /// Adds a name that isn't declared so far.
+    /// Adds a name that isn't declared so far. Where memory runs out, nothing is added.
     pub fn add(&mut self, alloc: Global, name: &[u8]) -> Result<(), NoMemory>
         requires { position (bytes_eq name.now) self.old ≡ None }
-        ensures { OnOk result (self.new ≡ self.old ++ name.now ∷ []) }
+        ensures added { OnOk result (self.new ≡ self.old ++ name.now ∷ []) }
+        ensures kept { OnErr result (self.new ≡ self.old) }
     {
         self.set.insert(Vec::from_slice(alloc, name)?)?;
         Ok(())

@@ -1,29 +1,33 @@
 //! Adding numbers and words to the end of a text.
-ghost use Rattle.std.specs.Prelude.{◌≡◌, ◌++◌, OnOk, decimal};
+ghost use Rattle.std.specs.Prelude.{◌≡◌, ◌++◌, OnOk, OnErr, decimal};
 ghost use Rattle.lin_text.specs.Spelling.{integer, minus_of};
 
 use outside::NoMemory;
 
-/// Adds the number at the end: a minus where it is below 0, and its digits.
-#[tactic(auto, unfolding(crate::specs::Spelling::integer))]
+/// Adds the number at the end: a minus where it is below 0, and its digits. Where memory runs out, nothing is
+/// added.
+#[tactic(auto, using(crate::proofs::IntegerLemmas::integers))]
 pub fn push_integer(out: &mut Vec<u8>, number: i64) -> Result<(), NoMemory>
-    ensures { OnOk result (out.new.items ≡ out.old.items ++ integer number) }
-{
-    push_str(out, minus(number))?;
-    push_number(out, number.unsigned_abs())
-}
-
-/// Adds the number at the end, in decimal digits with no leading zeros.
-pub fn push_number(out: &mut Vec<u8>, number: u64) -> Result<(), NoMemory>
-    ensures { OnOk result (out.new.items ≡ out.old.items ++ decimal number) }
+    ensures text { OnOk result (out.new.items ≡ out.old.items ++ integer number) }
+    ensures kept { OnErr result (out.new.items ≡ out.old.items) }
 {
     let digits = number.to_string(*out.allocator())?;
     push_str(out, digits.as_str())
 }
 
-/// Adds the text at the end.
+/// Adds the number at the end, in decimal digits with no leading zeros. Where memory runs out, nothing is added.
+pub fn push_number(out: &mut Vec<u8>, number: u64) -> Result<(), NoMemory>
+    ensures text { OnOk result (out.new.items ≡ out.old.items ++ decimal number) }
+    ensures kept { OnErr result (out.new.items ≡ out.old.items) }
+{
+    let digits = number.to_string(*out.allocator())?;
+    push_str(out, digits.as_str())
+}
+
+/// Adds the text at the end. Where memory runs out, nothing is added.
 pub fn push_str(out: &mut Vec<u8>, text: &str) -> Result<(), NoMemory>
-    ensures { OnOk result (out.new.items ≡ out.old.items ++ text.now) }
+    ensures text { OnOk result (out.new.items ≡ out.old.items ++ text.now) }
+    ensures kept { OnErr result (out.new.items ≡ out.old.items) }
 {
     out.extend_from_slice(text.as_bytes())?;
     Ok(())

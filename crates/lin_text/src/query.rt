@@ -46,9 +46,9 @@ pub fn read_lines(
     Ok((query.into_condition(), at))
 }
 
-/// Reads a query: the lines from `at`, the start of a line, up to a line that begins with another
-/// reserved word than `var`, or to the end of the input. The place where it stopped is the start of that
-/// line, or the input's length. With `in_proof` the words `answer`, `core` and `node` are reserved too.
+/// Reads a query, whose first line starts at `at`. The query is over where a line begins with a reserved
+/// word, `var` aside: beside the condition stands the place where that line starts, or the input's length
+/// where none comes. With `in_proof` the words `answer`, `core` and `node` are reserved too.
 ///
 /// The fault at the least place is answered, with its line and its column from the start of the whole
 /// input; at one place the one that goes first: `TooManyVars`, `TooManyAtoms`, `TooManyTerms`, `Token`,

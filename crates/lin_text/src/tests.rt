@@ -77,6 +77,8 @@ fn faults_stand_at_their_places(rt: HostRuntime) -> Result<(), Fail> {
         ("var y 5 3abc", 7, Some(TextKind::EmptyRange)),
         ("var y 1-2", 7, Some(TextKind::EmptyRange)),
         ("var y -3 -5", 7, Some(TextKind::EmptyRange)),
+        ("var y 5 -2147483648", 7, Some(TextKind::EmptyRange)),
+        ("var y 5 -2147483649", 10, Some(TextKind::NumberTooLarge)),
         ("var y 5 -3000000000", 10, Some(TextKind::NumberTooLarge)),
         ("var y 3000000000 1", 7, Some(TextKind::NumberTooLarge)),
         ("var y +5 9", 7, Some(TextKind::Syntax)),
@@ -177,33 +179,25 @@ fn repeated(alloc: Global, piece: &str, count: usize) -> Result<String, Fail> {
 }
 
 #[test]
-fn limits_are_met_exactly(rt: HostRuntime) -> Result<(), Fail> {
+fn limits_of_a_query_are_met_exactly(rt: HostRuntime) -> Result<(), Fail> {
     let alloc = rt.alloc();
-    let text = variables(alloc, 64)?;
-    expect(&rt, alloc, text.as_str(), 0, 0, None)?;
-    let text = variables(alloc, 65)?;
-    expect(
-        &rt,
-        alloc,
-        text.as_str(),
-        65,
-        1,
-        Some(TextKind::TooManyVars),
-    )?;
+    let vars = variables(alloc, 64)?;
+    expect(&rt, alloc, vars.as_str(), 0, 0, None)?;
+    let vars = variables(alloc, 65)?;
+    let kind = Some(TextKind::TooManyVars);
+    expect(&rt, alloc, vars.as_str(), 65, 1, kind)?;
 
     let lines = repeated(alloc, "x <= 3\n", 256)?;
     let text = format!(in alloc; "var x 0 9\n{}", lines.as_str())?;
     expect(&rt, alloc, text.as_str(), 0, 0, None)?;
     let text = format!(in alloc; "{}3000000000*q <= 1\n", text.as_str())?;
-    expect(
-        &rt,
-        alloc,
-        text.as_str(),
-        258,
-        1,
-        Some(TextKind::TooManyAtoms),
-    )?;
+    let kind = Some(TextKind::TooManyAtoms);
+    expect(&rt, alloc, text.as_str(), 258, 1, kind)
+}
 
+#[test]
+fn limits_of_a_line_are_met_exactly(rt: HostRuntime) -> Result<(), Fail> {
+    let alloc = rt.alloc();
     let terms = repeated(alloc, "x + ", 63)?;
     let text = format!(in alloc; "{}x <= 1", terms.as_str())?;
     expect_second(&rt, alloc, text.as_str(), 0, None)?;

@@ -1,5 +1,5 @@
 //! Writing: the plain spelling of a condition.
-ghost use Rattle.std.specs.Prelude.{◌≡◌, ◌++◌, false, length, All, IfOk, OnOk, flat_map};
+ghost use Rattle.std.specs.Prelude.{◌≡◌, ◌++◌, false, length, All, IfOk, OnErr, OnOk, flat_map};
 ghost use Rattle.lin_model.specs.Terms.{VarFits, TermFits, ExprFits};
 ghost use Rattle.lin_model.specs.Conditions.{IsCondition, AtomFits};
 ghost use Rattle.lin_text.specs.Queries.{Spells};
@@ -12,25 +12,31 @@ use outside::NoMemory;
 use std::alloc::Global;
 
 /// The plain spelling of a condition: each declaration `var NAME LO HI`, and then each comparison
-/// `LEFT CMP RIGHT`, in order, each on a line of its own that a line feed ends. The text spells the condition.
+/// `LEFT CMP RIGHT`, in order, each on a line of its own that a line feed ends. The text spells the
+/// condition, which keeps its limits.
+#[tactic(auto, unfolding(crate::specs::Spelling::condition_text))]
 pub fn write_query(alloc: Global, c: &Condition) -> Result<Vec<u8>, NoMemory>
     ensures text { IfOk result (λ text. text.items ≡ condition_text c.now) }
     ensures read_back { IfOk result (λ text. Spells false text.items 0 c.now (length text.items)) }
+    ensures fits { OnOk result (IsCondition c.now) }
 {
     let mut out = Vec::new(alloc);
-    push_query(&mut out, c)?;
+    push_vars(&mut out, c.vars())?;
+    push_atoms(&mut out, c.vars(), c.atoms())?;
     written_is_spelled();
     Ok(out)
 }
 
-/// Adds the plain spelling of a condition at the end, and tells that the condition keeps its limits.
-#[tactic(auto, unfolding(crate::specs::Spelling::condition_text))]
+/// Adds the plain spelling of a condition at the end, and tells that the condition keeps its limits. Where
+/// memory runs out, nothing is added.
 pub fn push_query(out: &mut Vec<u8>, c: &Condition) -> Result<(), NoMemory>
     ensures text { OnOk result (out.new.items ≡ out.old.items ++ condition_text c.now) }
+    ensures kept { OnErr result (out.new.items ≡ out.old.items) }
     ensures fits { OnOk result (IsCondition c.now) }
 {
-    push_vars(out, c.vars())?;
-    push_atoms(out, c.vars(), c.atoms())
+    let text = write_query(*out.allocator(), c)?;
+    out.extend_from_slice(&text)?;
+    Ok(())
 }
 
 fn push_vars(out: &mut Vec<u8>, vars: &[Var]) -> Result<(), NoMemory>

@@ -1,9 +1,10 @@
 -- The definitions at small values.
-use Rattle.std.proofs.Common.{◌≡◌, ◌-◌, ◌^◌, [], ◌∷◌, Some, refl, lit≤, arith}
+use Rattle.std.proofs.Common.{◌≡◌, ℕ, ◌-◌, ◌^◌, [], ◌∷◌, Some, Ok, Err, refl, lit≤, arith}
 use Rattle.outside.specs.Counts.{raised, Rose}
 use Rattle.outside.specs.Bytes.{Appends, AppendsFront, Gives, IsAtEnd}
 use Rattle.outside.specs.Crash.{IsWithin, IsLengthOf, ReadsAt, WritesAt, Torn, TearsAt, Synced}
 use Rattle.outside.specs.MemSink.{sink_faults}
+use Rattle.outside.specs.StdEnds.{Takes}
 
 check_raised : raised 4 ≡ 5
 check_raised = refl
@@ -47,7 +48,7 @@ check_reads_at = (refl, refl)
 check_reads_past_the_end : ReadsAt (Some (1 ∷ 2 ∷ 3 ∷ [])) 5 (0 ∷ []) 0
 check_reads_past_the_end = (refl, refl)
 
--- the file grows where the range passes its end
+-- a write that reaches beyond the last byte makes the file longer
 check_writes_at : WritesAt (Some (1 ∷ 2 ∷ 3 ∷ [])) (Some (1 ∷ 2 ∷ 8 ∷ 9 ∷ [])) 2 (8 ∷ 9 ∷ [])
 check_writes_at = refl
 
@@ -66,3 +67,10 @@ check_synced image left = left
 
 check_sink_faults : sink_faults (record { taken = []; failing = []; calls = 7; listed = 2; starved = 1 }) ≡ 3
 check_sink_faults = refl
+
+check_takes : Takes {A = ℕ} {F = ℕ} (Some (1 ∷ [])) (Some (1 ∷ 2 ∷ 3 ∷ [])) (2 ∷ 3 ∷ []) (Ok 0)
+check_takes = refl
+
+-- a write that failed after one byte of two
+check_takes_front : Takes {A = ℕ} {F = ℕ} (Some (1 ∷ [])) (Some (1 ∷ 2 ∷ [])) (2 ∷ 3 ∷ []) (Err 0)
+check_takes_front = record { front = 2 ∷ []; rest = 3 ∷ []; split = refl; appends = refl }

@@ -3,3 +3,4 @@ pub mod Bytes
 pub mod Crash
 pub mod MemSource
 pub mod MemSink
+pub mod StdEnds

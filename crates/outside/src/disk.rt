@@ -5,15 +5,16 @@ ghost use Rattle.outside.specs.Crash.{IsWithin, IsLengthOf, ReadsAt, WritesAt, T
 
 use crate::Failed;
 
-/// One file. Each call answers `Failed` only where the count of faults rose.
+/// One file. A call that answers `Failed` has raised the count of faults.
 ///
-/// What a disk may tell: its content, the images that a crash now may leave, and those that a crash at some moment
-/// since a time of its clock might have left. Whether it tells, and whether it keeps the rules of its images, is
-/// changed by no call. The rules: between two syncs each written range, and the part past the old end, may hold any
-/// bytes after a crash, and the bytes outside stay. After a sync that succeeds a crash leaves what a read gives.
+/// A disk may tell its content, the images that a crash at this moment may leave, and the images of every crash that
+/// could have come since an earlier moment. No call changes whether it tells them, or whether they keep the rules.
+///
+/// The rules: a crash may put anything in the ranges written since the last sync, and in whatever the file grew by;
+/// a byte that no such write touched survives. Once a sync has answered Ok, a crash gives back the content.
 pub trait Disk {
-    /// The name of the last `bind` that answered Ok, as bytes, and none at first. It isn't counted among what the
-    /// disk tells.
+    /// Which file was chosen last, by its name as bytes; none before the first `bind` that succeeds. Every disk has it,
+    /// whatever else it tells.
     ghost bound_name: { Self → Option (List ℕ) };
 
     /// What a read gives, where the disk tells it.
@@ -37,7 +38,7 @@ pub trait Disk {
     /// How often it has failed. The count stands still at 2^64 - 1.
     ghost faults: { Self → ℕ };
 
-    /// Chooses the file of this name, and makes an empty one where there is none. A disk that tells its content or
+    /// Chooses the file of this name; an empty one is made if there was none. A disk that tells its content or
     /// its images has one file, which every name chooses, so nothing that it tells is changed, after `Failed` too.
     fn bind(&mut self, name: &str) -> Result<(), Failed>
         ensures bound { OnOk result (bound_name self.new ≡ Some name.now) }
@@ -82,8 +83,8 @@ pub trait Disk {
         ensures rules { keeps_rules self.new ≡ keeps_rules self.old }
         ensures cause { HasCause (faults self.old) (faults self.new) result };
 
-    /// Writes over what is there from byte `at` on, and past the end. After `Failed` the range may hold any bytes,
-    /// and all outside it stays. Until a sync, a crash may leave any bytes in the range.
+    /// Writes over what is there from byte `at` on, and past the end. A write that failed leaves no byte of its range
+    /// to be relied on, and every other byte as it was. A crash before the next sync does the same.
     fn write_at(&mut self, at: u64, bytes: &[u8]) -> Result<(), Failed>
         requires { IsWithin (content self.old) at }
 

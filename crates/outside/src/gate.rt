@@ -1,6 +1,6 @@
 //! A place at which a test can hold an executor up.
 
-/// Is passed once in each flight, after the flight has begun and outside the store's locks.
+/// Each flight passes it once, between its beginning and its search, while no lock of the store is held.
 pub trait Gate {
     /// The executor with this seat (from 0) is about to solve.
     fn before_solve(&self, seat: u32);

@@ -9,8 +9,7 @@ use std::alloc::Global;
 use std::marker::Model;
 
 /// A list of bytes that grows, with a list of the numbers of the calls that are to fail, counted from 0. It tells the
-/// bytes taken, and its count of faults is the number of listed calls that were made, and of calls refused for want
-/// of memory.
+/// bytes taken. Its faults are its listed calls, once they are made, and the calls for which memory ran out.
 #[derive(Debug, Drop)]
 pub struct MemSink {
     taken: Vec<u8>,
@@ -49,7 +48,7 @@ impl MemSink {
         &self.taken
     }
 
-    /// How many calls were refused for want of memory. The count stands still at 2^64 - 1.
+    /// For how many calls memory ran out. The count stands still at 2^64 - 1.
     pub fn starved(&self) -> u64
         ensures { result ≡ self.now.starved }
     {
@@ -62,8 +61,8 @@ impl Sink for MemSink {
 
     ghost faults = { sink_faults };
 
-    /// Fails where the call's number is listed, and then takes the first half of the piece, rounded down. It fails
-    /// too where memory ran out, and then takes nothing, also where it is listed.
+    /// A listed call fails when the sink has taken half of the piece, of 5 bytes 2. A call for which memory ran out
+    /// fails and takes nothing, listed or not.
     fn write(&mut self, piece: &[u8]) -> Result<(), Failed>
         ensures whole { OnOk result (Appends (Some self.old.taken) (Some self.new.taken) piece.now) }
         ensures front { OnErr result (AppendsFront (Some self.old.taken) (Some self.new.taken) piece.now) }
@@ -78,6 +77,9 @@ impl Sink for MemSink {
         ensures half { Contains self.old.failing self.old.calls → ¬ Rose self.old.starved self.new.starved
             → self.new.taken ≡ self.old.taken ++ take (length piece.now / 2) piece.now }
         ensures nothing { self.old.starved < self.new.starved → self.new.taken ≡ self.old.taken }
+        ensures unlisted { ¬ Contains self.old.failing self.old.calls → OnErr result (self.new.taken ≡ self.old.taken) }
+        ensures half_or_nothing { Contains self.old.failing self.old.calls
+            → (self.new.taken ≡ self.old.taken ++ take (length piece.now / 2) piece.now) ⊎ (self.new.taken ≡ self.old.taken) }
 
         // The counts.
         ensures failing { self.new.failing ≡ self.old.failing }

@@ -7,7 +7,7 @@ use crate::{Failed, Source};
 use std::marker::Model;
 
 /// A list of bytes to read, with a list of the numbers of the calls that are to fail, counted from 0. It tells the
-/// bytes left, and its count of faults is the number of listed calls that were made. It takes no memory.
+/// bytes left. Its faults are its listed calls, once they are made. It takes no memory.
 #[derive(Debug, Drop)]
 pub struct MemSource {
     bytes: Vec<u8>,

@@ -79,6 +79,7 @@ impl Disk for NoDisk {
 
     fn read_at(&mut self, _at: u64, _buf: &mut [u8]) -> Result<usize, Failed>
         ensures failed { IsErr result }
+        ensures untouched { _buf.new ≡ _buf.old }
         ensures counted { self.new ≡ raised self.old }
         ensures cause { HasCause self.old self.new result }
     {

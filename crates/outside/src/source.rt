@@ -13,8 +13,8 @@ pub trait Source {
     /// How often it has failed. The count stands still at 2^64 - 1.
     ghost faults: { Self → ℕ };
 
-    /// Moves the first n bytes left into the front of `buf` and answers n. 0 into a buffer that isn't empty is the
-    /// end. `Failed` comes only where the count of faults rose, and leaves the bytes left as they were.
+    /// Takes n bytes from what is left, puts them at the front of `buf`, and answers n. Where there was room for a
+    /// byte, 0 says that none is left. `Failed` has raised the count of faults and taken nothing.
     fn read(&mut self, buf: &mut [u8]) -> Result<usize, Failed>
         ensures bound { IfOk result (λ n. n ≤ length buf.new) }
         ensures moved { IfOk result (Gives (left self.old) (left self.new) buf.new) }

@@ -1,12 +1,13 @@
 //! A writer of std as a sink.
-ghost use Rattle.std.specs.Prelude.{◌≡◌, ℕ, None, if◌then◌else◌, is_err};
+ghost use Rattle.std.specs.Prelude.{◌≡◌, None, if◌then◌else◌, is_err};
 ghost use Rattle.outside.specs.Counts.{raised, HasCause};
+ghost use Rattle.outside.specs.StdEnds.{Takes};
 
 use crate::{Failed, Sink};
 use std::io::{ErrorKind, Write};
 use std::marker::Model;
 
-/// Writes to a writer of std. It tells nothing of the bytes taken, and contracts see it as its count of faults.
+/// Writes to a writer of std. As a sink it tells nothing of the bytes taken; contracts see it as the writer and its count of faults.
 #[derive(Drop)]
 pub struct StdSink<W> {
     writer: W,
@@ -14,15 +15,17 @@ pub struct StdSink<W> {
 }
 
 impl<W> Model for StdSink<W> {
-    ghost Value = { ℕ };
+    ghost use Rattle.outside.specs.StdEnds.{StdEnd};
 
-    ghost view = { λ sink. sink.faults };
+    ghost Value = { StdEnd W };
+
+    ghost view = { λ sink. record { end = sink.writer; faults = sink.faults } };
 }
 
 impl<W: Write> StdSink<W> {
     /// A sink that has not failed yet.
     pub fn new(writer: W) -> StdSink<W>
-        ensures { result ≡ 0 }
+        ensures { result ≡ record { end = writer; faults = 0 } }
     {
         StdSink { writer, faults: 0 }
     }
@@ -31,13 +34,14 @@ impl<W: Write> StdSink<W> {
 impl<W: Write> Sink for StdSink<W> {
     ghost taken = { λ _. None };
 
-    ghost faults = { λ count. count };
+    ghost faults = { λ sink. sink.faults };
 
     /// Writes until the writer has taken the whole piece, and flushes it. A writer that takes nothing has failed, and
     /// a call that a signal interrupted is made again. Only a fault raises the count, by one.
     fn write(&mut self, piece: &[u8]) -> Result<(), Failed>
-        ensures cause { HasCause self.old self.new result }
-        ensures counted { self.new ≡ (if is_err result then raised self.old else self.old) }
+        ensures bytes { Takes (W.contents self.old.end) (W.contents self.new.end) piece.now result }
+        ensures cause { HasCause self.old.faults self.new.faults result }
+        ensures counted { self.new.faults ≡ (if is_err result then raised self.old.faults else self.old.faults) }
     {
         let result = write_whole(&mut self.writer, piece);
         if result.is_err() {
@@ -47,7 +51,9 @@ impl<W: Write> Sink for StdSink<W> {
     }
 }
 
-fn write_whole<W: Write>(writer: &mut W, piece: &[u8]) -> Result<(), Failed> {
+fn write_whole<W: Write>(writer: &mut W, piece: &[u8]) -> Result<(), Failed>
+    ensures { Takes (W.contents writer.old) (W.contents writer.new) piece.now result }
+{
     let mut rest = piece;
     for _ in 0..u64::MAX {
         if rest.is_empty() {

@@ -76,7 +76,7 @@ others q keys h i k law fits lt is n d within v one other =
     first = subst (λ (j : SliceKey). Contains j.back v) (get_or-take i keys n d before) one
 
     apart : AreApart (get_or h.are.classes n no_slice) (get_or h.are.classes i no_slice)
-    apart = pairs_tail AreApart h.are.front h.are.classes (subst (AllPairs AreApart) h.are.joined (law q h.slices fits h.are).apart) n i no_slice before (omega (arith, lt, zip_length (IsKeyed q) h.are.classes keys h.each))
+    apart = pairs_tail AreApart h.are.front h.are.classes (subst (AllPairs AreApart) h.are.joined (law q h.slices fits.in_range h.are).apart) n i no_slice before (omega (arith, lt, zip_length (IsKeyed q) h.are.classes keys h.each))
 
 -- ---- unsatisfiable by a slice
 
@@ -137,7 +137,7 @@ assigned q keys h values met long = record { one_each = long; within = λ n var 
 
 -- every atom is in some slice, whose key says the same
 all_hold : (q : PlainCondition) (keys : List SliceKey) (h : AreKeyed q keys) (values : List ℤ) → SlicesPartition → Fits q.vars q.atoms → AllMet keys values → IsAssignment q.vars values → All (λ atom. AtomHolds atom values) q.atoms
-all_hold q keys h values law fits met assignment j d lt = some_at q.atoms j d (λ (atom : Atom). AtomHolds atom values) (by_slice (any_cases (λ slice. Contains slice.atoms j) h.are.front h.are.classes (subst (Any (λ slice. Contains slice.atoms j)) h.are.joined ((law q h.slices fits h.are).each_atom j lt))))
+all_hold q keys h values law fits met assignment j d lt = some_at q.atoms j d (λ (atom : Atom). AtomHolds atom values) (by_slice (any_cases (λ slice. Contains slice.atoms j) h.are.front h.are.classes (subst (Any (λ slice. Contains slice.atoms j)) h.are.joined ((law q h.slices fits.in_range h.are).each_atom j lt))))
   where
     in_front : (front : List PlainSlice) → IsFront (NamesNothingAt q.atoms) front → Any (λ slice. Contains slice.atoms j) front → HoldsAt q values j
     in_front [] free (k, s, within, is, has) = absurd (omega arith)

@@ -5,3 +5,8 @@ mod PlaceLemmas
 mod AskLemmas
 mod ClassLemmas
 mod VerdictLemmas
+mod SufficientLemmas
+mod EachKeyedLemmas
+mod EachPlacedLemmas
+mod AskNextLemmas
+mod EachAskedLemmas

@@ -80,7 +80,7 @@ pub record Found (q : PlainCondition) (slices : List PlainSlice) (cs : List Cano
   pub each : (e : Canonical) → Canonises q slice (get_or cs place e)
 
 find_slice : (q : PlainCondition) (slices : List PlainSlice) (cs : List Canonical) (i : ℕ) → SlicesPartition → Fits q.vars q.atoms → AreSlices q slices → AllZip (Canonises q) slices cs → i < length q.atoms → Found q slices cs i
-find_slice q slices cs i law fits are zip lt = of ((law q slices fits are).each_atom i lt)
+find_slice q slices cs i law fits are zip lt = of ((law q slices fits.in_range are).each_atom i lt)
   where
     of : Any (λ slice. Contains slice.atoms i) slices → Found q slices cs i
     of (k, s, within, is, has) = record {

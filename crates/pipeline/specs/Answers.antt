@@ -91,11 +91,12 @@ pub record IsLeastNever (q : PlainCondition) (j : ℕ) : Type 0 where
   pub never : IsNeverAt q j
   pub least : (i : ℕ) → i < j → ¬ IsNeverAt q i
 
--- the part of number s is the first that was left open
+-- the part was left open
 abbrev pub IsOpen : PlainPart → Type 0
 IsOpen Solved = ⊥
 IsOpen (Open tree) = Unit {0}
 
+-- the part of number s is the first that was left open
 pub record IsFirstOpen (parts : List PlainPart) (s : ℕ) : Type 0 where
   pub here : IsSomeAnd (slice_get parts s) IsOpen
   pub before : (i : ℕ) → i < s → slice_get parts i ≡ Some Solved
@@ -107,7 +108,7 @@ pub record IsSat (budget : ℕ) (q : PlainCondition) (classes : List PlainSlice)
   pub left : AllZip (Leaves budget q) classes parts
   pub solved : All (λ part. part ≡ Solved) parts
 
--- the least atom that no integers satisfy, and no slice was asked
+-- the least atom without an integer solution; nothing was searched
 pub record IsUnsatAtom (q : PlainCondition) (j : ℕ) (parts : List PlainPart) : Type 0 where
   pub least : IsLeastNever q j
   pub none_asked : parts ≡ []
@@ -128,6 +129,7 @@ pub record IsUnknown (budget : ℕ) (q : PlainCondition) (classes : List PlainSl
   pub left : AllZip (Leaves budget q) classes parts
   pub first : IsFirstOpen parts s
 
+-- what each verdict says
 abbrev pub IsRightVerdict : ℕ → PlainCondition → List PlainSlice → Told → List PlainPart → Type 0
 IsRightVerdict budget q classes (Sat values) parts = IsSat budget q classes values parts
 IsRightVerdict budget q classes (UnsatAtom j) parts = IsUnsatAtom q j parts

@@ -35,6 +35,7 @@ pub record IsImpossible (q : PlainCondition) (j : ℕ) : Type 0 where
   pub are : AreSlices q slices
   pub least : IsLeastNever q j
 
+-- what the slices of the query came to
 abbrev pub IsKeyedQuery : PlainCondition → Keyed → Type 0
 IsKeyedQuery q (Never j) = IsImpossible q j
 IsKeyedQuery q (Keys keys) = AreKeyed q keys.items

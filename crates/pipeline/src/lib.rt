@@ -3,6 +3,7 @@
 
 mod answer;
 mod asking;
+mod laws;
 mod limits;
 mod model;
 mod query;
@@ -10,4 +11,5 @@ mod slice_keys;
 mod solving;
 
 pub use answer::{Plain, PlainPart, Told};
+pub use laws::{answers_exist, sufficient_budgets_decide};
 pub use query::answer_query;

@@ -11,11 +11,12 @@ use outside::NoMemory;
 use sqlite_items::Items;
 use std::alloc::Global;
 
-/// Answers a query (after Green, FSE 2012). All slices are brought to their keys first. Where some atom is
-/// satisfied by no integers, the least such atom is told and no slice is asked. Otherwise the slices with
-/// variables are asked in order, up to and with the first that has no model, each with at most `budget` splits,
-/// 1 to 100,000: unsat by that slice, or else unknown of the first slice on which the splits were used up, or
-/// else sat with a value for each variable. The region is left as it was.
+/// Answers a query (after Green, FSE 2012). All slices are brought to their keys first. If an atom has no integer
+/// solution, the verdict is the least such atom, without a search. If none is like that, the slices with variables
+/// are searched one after another with at most `budget` splits each, 1 to 100,000, and the search ends with the first
+/// that has no model: the verdict is unsat by that slice. Where there is none it is unknown of the first slice on which
+/// the splits were used up, and where there is none of these either it is sat, with a value for each variable. The
+/// region is left as it was.
 pub fn answer_query(
     alloc: Global,
     query: &Condition,

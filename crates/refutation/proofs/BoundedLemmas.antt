@@ -1,9 +1,8 @@
 -- A key that bounds each of its variables on both sides has both sides of each.
-use Rattle.std.proofs.Common.{◌≡◌, ◌⊎◌, ⊎_elim, ℕ, zero, suc, ◌<◌, ◌≤◌, ℤ, neg_ℤ, ◌≤ℤ◌, Bool, true, false, cond, Option, Some, None, is_some, List, [], ◌∷◌, length, get_or, eqb, arith, refl, ap, sym, subst, ◌∙◌, int_lt}
+use Rattle.std.proofs.Common.{◌≡◌, ◌⊎◌, ⊎_elim, ℕ, zero, suc, ◌<◌, ◌≤◌, ℤ, neg_ℤ, ◌≤ℤ◌, Bool, true, false, cond, Option, Some, None, is_some, List, [], ◌∷◌, length, get_or, arith, refl, ap, sym, subst, ◌∙◌, int_lt}
 use Rattle.std.specs.Int.{int_min, int_max}
 use Rattle.std.specs.List.{All, Any}
-use Rattle.std.proofs.lemmas.Bool.Decides.{eqb_tells}
-use Rattle.std.proofs.lemmas.Int.{ints}
+use Rattle.std.proofs.lemmas.Bool.{eq-eqb}
 use Rattle.std.proofs.lemmas.List.FromFn.{get_or-map-range_with_len}
 use Rattle.lin_model.specs.declared.form.FormTerm.{FormTerm}
 use Rattle.lin_model.specs.declared.op.Op.{Op}
@@ -14,6 +13,7 @@ use Rattle.lin_model.specs.Key.{IsKey, key_width}
 use Rattle.lin_model.specs.Bounded.{variable, GivesLower, GivesUpper, IsBounded}
 use Rattle.refutation.specs.Bounds.{side_limit, lower_side, upper_side, lower_by, upper_by, is_variable, tighter_lower, tighter_upper, lower_from, upper_from, lower_bound, upper_bound, key_bounds, variables}
 use Rattle.refutation.specs.Boxed.{IsBoxed}
+use Rattle.refutation.proofs.Arithmetic.{int_lt-false}
 
 -- ---- the width of a key
 
@@ -30,22 +30,15 @@ key-narrow key h = keys-width key h.canonical
 
 -- ---- the side that one atom gives
 
-not_below : (n m : ℤ) → m ≤ℤ n → int_lt n m ≡ false
-not_below n m le = by_test (int_lt n m) refl
-  where
-    by_test : (t : Bool) → int_lt n m ≡ t → int_lt n m ≡ false
-    by_test true e = absurd (omega (arith, ints, e, le))
-    by_test false e = e
-
 has_value : (b : Bool) (n : ℤ) → b ≡ false → is_some (cond b None (Some n)) ≡ true
 has_value true n h = absurd (cc)
 has_value false n h = refl
 
 lower_side-there : (c : ℤ) → neg_ℤ side_limit ≤ℤ c → is_some (lower_side c) ≡ true
-lower_side-there c le = has_value (int_lt c (neg_ℤ side_limit)) (int_min c side_limit) (not_below c (neg_ℤ side_limit) le)
+lower_side-there c le = has_value (int_lt c (neg_ℤ side_limit)) (int_min c side_limit) (int_lt-false c (neg_ℤ side_limit) le)
 
 upper_side-there : (c : ℤ) → c ≤ℤ side_limit → is_some (upper_side c) ≡ true
-upper_side-there c le = has_value (int_lt side_limit c) (int_max c (neg_ℤ side_limit)) (not_below side_limit c le)
+upper_side-there c le = has_value (int_lt side_limit c) (int_max c (neg_ℤ side_limit)) (int_lt-false side_limit c le)
 
 lower_by-there : (op : Op) (c : ℤ) → (op ≡ Ge) ⊎ (op ≡ Eq) → neg_ℤ side_limit ≤ℤ c → is_some (lower_by op c) ≡ true
 lower_by-there op c either le =
@@ -55,11 +48,8 @@ upper_by-there : (op : Op) (c : ℤ) → (op ≡ Le) ⊎ (op ≡ Eq) → c ≤�
 upper_by-there op c either le =
     ⊎_elim (λ at_most. subst (λ (o : Op). is_some (upper_by o c) ≡ true) (sym at_most) (upper_side-there c le)) (λ eq. subst (λ (o : Op). is_some (upper_by o c) ≡ true) (sym eq) (upper_side-there c le)) either
 
-same_number : (v : ℕ) → eqb v v ≡ true
-same_number v = grind (arith, eqb_tells)
-
 is_this : (v : ℕ) → is_variable (variable v) v ≡ true
-is_this v = ap (λ (b : Bool). cond b true false) (same_number v)
+is_this v = ap (λ (b : Bool). cond b true false) (eq-eqb v v refl)
 
 chosen : (b : Bool) (o : Option ℤ) → b ≡ true → is_some o ≡ true → is_some (cond b o None) ≡ true
 chosen true o is h = h

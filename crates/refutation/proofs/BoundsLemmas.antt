@@ -1,41 +1,36 @@
 -- Bounds, side by side.
-use Rattle.std.proofs.Common.{◌≡◌, ℕ, zero, suc, ◌+◌, ◌<◌, ◌≤◌, ℤ, pos, ◌+ℤ◌, Bool, true, false, cond, ◌||◌, eqb, Option, Some, None, List, [], ◌∷◌, length, get_or, set, drop, replicate, ⊎_elim, refl, ap, sym, ◌∙◌, subst, arith}
+use Rattle.std.proofs.Common.{◌≡◌, ℕ, zero, suc, ◌+◌, ◌<◌, ◌≤◌, ℤ, pos, ◌+ℤ◌, true, false, cond, eqb, Option, Some, None, List, [], ◌∷◌, length, get_or, set, drop, replicate, ⊎_elim, refl, ap, sym, ◌∙◌, subst, arith}
 use Rattle.std.specs.Int.{int_max, int_min}
-use Rattle.std.specs.List.{list_any, range_with_len}
-use Rattle.std.proofs.lemmas.Bool.{cases_lt}
-use Rattle.std.proofs.lemmas.Bool.Decides.{nat_tests}
+use Rattle.std.proofs.lemmas.List.Folds.{list_any-from_Any, list_any_none}
+use Rattle.std.proofs.lemmas.Bool.{cases_lt, cases_eq, cond-true, cond-false, eq-eqb, ne_eqb}
 use Rattle.std.proofs.lemmas.Int.{ints, clamps}
 use Rattle.std.proofs.lemmas.List.{get_or-set_same, get_or-set_other, length-replicate, drop_more}
 use Rattle.std.proofs.Math.ListN.{drop_of_length-le}
 use Rattle.std.proofs.lemmas.List.Elements.{All-same, All-replicate}
-use Rattle.std.proofs.lemmas.List.FromFn.{fill_by_all}
+use Rattle.std.proofs.lemmas.List.FromFn.{fill_by_all, get_or-range_with_len, length-range_with_len}
 use Rattle.lin_model.specs.declared.form.FormTerm.{FormTerm}
 use Rattle.lin_model.specs.KeyAtom.{PlainKeyAtom, AscendsBelow64}
 use Rattle.refutation.specs.Bounds.{PlainBounds, lower_of, upper_of, variables, tighter_lower, tighter_upper, lower_from, upper_from, lower_bound, upper_bound, key_bounds, with_lower, with_upper, crosses, is_empty, AreBounds, IsSide, add_known, scaled_side, least, greatest}
 
 -- ---- emptiness
 
-any_at : (p : ℕ → Bool) (a n v : ℕ) → a ≤ v → v < a + n → p v ≡ true → list_any p (range_with_len a n) ≡ true
-any_at p a zero v low high h = absurd (omega arith)
-any_at p a (suc n) v low high h =
-    ⊎_elim (λ lt. or_right (p a) (list_any p (range_with_len (a + 1) n)) (any_at p (a + 1) n v (omega arith) (omega arith) h)) (λ ge. let same : v ≡ a = omega arith in ap (λ (b : Bool). b || list_any p (range_with_len (a + 1) n)) (subst (λ w. p w ≡ true) same h)) (cases_lt a v)
-  where
-    or_right : (b c : Bool) → c ≡ true → (b || c) ≡ true
-    or_right true c h = refl
-    or_right false c h = h
+variable-at : (v d : ℕ) → v < 64 → get_or variables v d ≡ v
+unfolding variables
+variable-at v d lt = get_or-range_with_len 0 64 v d lt ∙ omega arith
 
-any_none : (p : ℕ → Bool) (a n : ℕ) → ((v : ℕ) → a ≤ v → v < a + n → p v ≡ false) → list_any p (range_with_len a n) ≡ false
-any_none p a zero h = refl
-any_none p a (suc n) h =
-    ap (λ (b : Bool). b || list_any p (range_with_len (a + 1) n)) (h a (omega arith) (omega arith)) ∙ any_none p (a + 1) n (λ v low high. h v (omega arith) (omega arith))
+variables-length : length variables ≡ 64
+unfolding variables
+variables-length = length-range_with_len 0 64
 
 pub is_empty-true : (b : PlainBounds) (v : ℕ) → v < 64 → crosses (lower_of b v) (upper_of b v) ≡ true → is_empty b ≡ true
-unfolding is_empty variables
-is_empty-true b v lt h = any_at (λ w. crosses (lower_of b w) (upper_of b w)) 0 64 v (omega arith) (omega arith) h
+unfolding is_empty
+is_empty-true b v lt h =
+    list_any-from_Any (λ w. crosses (lower_of b w) (upper_of b w)) variables (v, v, omega (arith, variables-length), variable-at v v lt, h)
 
 pub is_empty-false : (b : PlainBounds) → ((v : ℕ) → v < 64 → crosses (lower_of b v) (upper_of b v) ≡ false) → is_empty b ≡ false
-unfolding is_empty variables
-is_empty-false b h = any_none (λ w. crosses (lower_of b w) (upper_of b w)) 0 64 (λ v low high. h v (omega arith))
+unfolding is_empty
+is_empty-false b h =
+    list_any_none (λ w. crosses (lower_of b w) (upper_of b w)) variables (λ v d lt. let within : v < 64 = omega (arith, variables-length) in subst (λ w. crosses (lower_of b w) (upper_of b w) ≡ false) (sym (variable-at v d within)) (h v within))
 
 -- ---- one side tightened
 
@@ -59,20 +54,10 @@ tighter_upper-tighter_upper (Some x) None q = refl
 tighter_upper-tighter_upper (Some x) (Some y) None = refl
 tighter_upper-tighter_upper (Some x) (Some y) (Some z) = let same : int_min (int_min x y) z ≡ int_min x (int_min y z) = omega (arith, ints, clamps) in ap Some same
 
--- a choice by a test of two numbers
-at_same : (w v : ℕ) (o : Option ℤ) → w ≡ v → cond (eqb w v) o None ≡ o
-at_same w v o h = grind (arith, nat_tests)
-
-at_other : (w v : ℕ) (o : Option ℤ) → (w ≡ v → ⊥) → cond (eqb w v) o None ≡ None
-at_other w v o h = grind (arith, nat_tests)
-
 -- a list in which the place w was tightened, read at v
 tightened_at : (f : Option ℤ → Option ℤ → Option ℤ) (none : (o : Option ℤ) → f o None ≡ o) (xs : List (Option ℤ)) (w v : ℕ) (side : Option ℤ) → w < length xs → get_or (set xs w (f (get_or xs w None) side)) v None ≡ f (get_or xs v None) (cond (eqb w v) side None)
 tightened_at f none xs w v side lt =
-    by_eq (λ same. subst (λ u. get_or (set xs w (f (get_or xs w None) side)) u None ≡ f (get_or xs u None) (cond (eqb w u) side None)) same (get_or-set_same xs w (f (get_or xs w None) side) None lt ∙ ap (λ (o : Option ℤ). f (get_or xs w None) o) (sym (at_same w w side refl)))) (λ other. get_or-set_other xs w v (f (get_or xs w None) side) None (λ e. other (sym e)) ∙ sym (ap (λ (o : Option ℤ). f (get_or xs v None) o) (at_other w v side other) ∙ none (get_or xs v None)))
-  where
-    by_eq : {P : Type 0} → (w ≡ v → P) → ((w ≡ v → ⊥) → P) → P
-    by_eq f g = ⊎_elim (λ lt. g (λ e. omega arith)) (λ ge. ⊎_elim (λ lt. g (λ e. omega arith)) (λ le. f (omega arith)) (cases_lt v w)) (cases_lt w v)
+    ⊎_elim (λ same. subst (λ u. get_or (set xs w (f (get_or xs w None) side)) u None ≡ f (get_or xs u None) (cond (eqb w u) side None)) same (get_or-set_same xs w (f (get_or xs w None) side) None lt ∙ ap (λ (o : Option ℤ). f (get_or xs w None) o) (sym (cond-true (eqb w w) side None (eq-eqb w w refl))))) (λ other. get_or-set_other xs w v (f (get_or xs w None) side) None (λ e. other (sym e)) ∙ sym (ap (λ (o : Option ℤ). f (get_or xs v None) o) (cond-false (eqb w v) side None (ne_eqb w v other)) ∙ none (get_or xs v None))) (cases_eq w v)
 
 pub with_lower-at : (b : PlainBounds) (w v : ℕ) (n : ℤ) → w < length b.lower → lower_of (with_lower b w n) v ≡ tighter_lower (lower_of b v) (cond (eqb w v) (Some n) None)
 with_lower-at b w v n lt = tightened_at tighter_lower tighter_lower-none b.lower w v (Some n) lt
@@ -156,13 +141,14 @@ least_end form b i sum whole le h =
 
 -- ---- bounds without any side
 
-get_or-missing : (n v : ℕ) → get_or {A = Option ℤ} (replicate n None) v None ≡ None
-get_or-missing zero v = refl
-get_or-missing (suc n) zero = refl
-get_or-missing (suc n) (suc v) = get_or-missing n v
+-- one value everywhere, also behind the end
+pub get_or-same : {X : Type 0} (n v : ℕ) (x : X) → get_or (replicate n x) v x ≡ x
+get_or-same zero v x = refl
+get_or-same (suc n) zero x = refl
+get_or-same (suc n) (suc v) x = get_or-same n v x
 
 pub side_missing : (sides : List (Option ℤ)) (n v : ℕ) → sides ≡ replicate n None → get_or sides v None ≡ None
-side_missing sides n v is = ap (λ (xs : List (Option ℤ)). get_or xs v None) is ∙ get_or-missing n v
+side_missing sides n v is = ap (λ (xs : List (Option ℤ)). get_or xs v None) is ∙ get_or-same n v None
 
 pub AreBounds-missing : (lo hi : List (Option ℤ)) → lo ≡ replicate 64 None → hi ≡ replicate 64 None → AreBounds (record { lower = lo; upper = hi })
 AreBounds-missing lo hi l h = record {

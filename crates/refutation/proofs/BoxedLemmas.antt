@@ -1,13 +1,13 @@
--- The sides of a key's bounds are at most 2^32 in size; which keys are boxed, by hand.
-use Rattle.std.proofs.Common.{◌≡◌, ℕ, zero, suc, ◌^◌, ◌≤◌, ℤ, pos, negsuc, neg_ℤ, Bool, true, false, cond, Option, Some, None, IfSome, List, [], ◌∷◌, unsigned_abs, arith, refl, sym, subst, int_lt}
+-- The sides of a key's bounds are at most 2^32 in size.
+use Rattle.std.proofs.Common.{◌≡◌, ℕ, ◌^◌, ◌≤◌, ℤ, neg_ℤ, Bool, true, false, cond, Option, Some, None, IfSome, List, [], ◌∷◌, unsigned_abs, arith, refl, sym, subst, int_lt}
 use Rattle.std.specs.Int.{int_min, int_max}
 use Rattle.std.proofs.lemmas.Int.{ints, clamps}
 use Rattle.lin_model.specs.declared.op.Op.{Op}
 use Rattle.lin_model.specs.declared.op.Op.TheVariants.{Le, Ge, Eq, Ne}
 use Rattle.lin_model.specs.KeyAtom.{PlainKeyAtom}
 use Rattle.refutation.proofs.Points.{over_variables, if_some}
-use Rattle.refutation.specs.Bounds.{PlainBounds, side_limit, lower_of, upper_of, lower_side, upper_side, lower_by, upper_by, is_variable, tighter_lower, tighter_upper, lower_bound, upper_bound, key_bounds, variables}
-use Rattle.refutation.specs.Boxed.{IsBoxed, HasShortSides}
+use Rattle.refutation.specs.Bounds.{PlainBounds, side_limit, lower_side, upper_side, lower_by, upper_by, is_variable, tighter_lower, tighter_upper, lower_bound, upper_bound, key_bounds}
+use Rattle.refutation.specs.Boxed.{HasShortSides}
 
 -- a side of at most 2^32 in size
 abbrev Short : Option ℤ → Type 0
@@ -64,25 +64,3 @@ key_bounds-short key = record {
 
 pub bounds-short : (b : PlainBounds) (key : List PlainKeyAtom) → b ≡ key_bounds key → HasShortSides b
 bounds-short b key is = subst HasShortSides (sym is) (key_bounds-short key)
-
--- ---- by hand
-
--- `v0 <= hi`, or `v0 >= lo`
-abbrev alone : Op → ℤ → PlainKeyAtom
-alone op c = record { form = record { var = 0; coef = pos 1 } ∷ []; op = op; constant = c }
-
--- `v0 <= 1`, `v0 >= 0` is boxed
-check_boxed : IsBoxed (alone Le (pos 1) ∷ alone Ge (pos 0) ∷ [])
-unfolding key_bounds variables
-check_boxed zero lt = record { lower = refl; upper = refl }
-check_boxed (suc v) lt = absurd (omega arith)
-
--- `v0 <= 1`, `v0 != 0` is not: no lower side
-check_not_boxed : ¬ IsBoxed (alone Le (pos 1) ∷ alone Ne (pos 0) ∷ [])
-unfolding key_bounds variables
-check_not_boxed h = let no_side : false ≡ true = (h 0 (omega arith)).lower in absurd (cc)
-
--- `v0 >= 4294967297` and `v0 <= -4294967297`: sides of 2^32 in size
-check_short : (lower_of (key_bounds (alone Ge (pos 4294967297) ∷ [])) 0 ≡ Some (pos 4294967296)) × (upper_of (key_bounds (alone Le (negsuc 4294967296) ∷ [])) 0 ≡ Some (negsuc 4294967295))
-unfolding key_bounds variables
-check_short = (refl, refl)

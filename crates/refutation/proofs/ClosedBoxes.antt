@@ -3,6 +3,8 @@ use Rattle.std.proofs.Common.{◌≡◌, ℕ, ◌<◌, ℤ, pos, negsuc, neg_ℤ
 use Rattle.std.specs.List.{All, list_any}
 use Rattle.std.specs.Option.{option_map, option_map_or}
 use Rattle.std.specs.Ordering.{int_eq}
+use Rattle.std.proofs.lemmas.Bool.{and_parts, or_cases, not-true, both_ways}
+use Rattle.std.proofs.lemmas.Bool.Decides.{Decides-int_eq}
 use Rattle.std.proofs.lemmas.Int.{ints}
 use Rattle.std.proofs.lemmas.List.Elements.{All-nil, All-cons}
 use Rattle.lin_model.specs.declared.op.Op.{Op}
@@ -19,8 +21,7 @@ use Rattle.refutation.specs.Bounds.{PlainBounds, lower_of, upper_of, variables, 
 use Rattle.refutation.specs.Box.{PlainBox, beside, side_atom, IsInBox}
 use Rattle.refutation.specs.Leaf.{PlainLeaf, combo, fixed, empty, named, is_factor, is_positive_factor, weight, weighted, Multiple, multiple_of, multiples_of, summed_constant, summed_form, is_positive_sum, combo_closes, fails_fixed, fixed_closes, closes}
 use Rattle.refutation.proofs.Arithmetic.{scale_up, scale_down}
-use Rattle.refutation.proofs.Points.{int_eq-same}
-use Rattle.refutation.proofs.LookUps.{and_true, or_true, not_both, chosen, test_found, bound_some, mapped_some, All-at}
+use Rattle.refutation.proofs.LookUps.{chosen, test_found, bound_some, mapped_some, All-at}
 use Rattle.refutation.proofs.Sums.{least-below, greatest-above, total_of, summed_form-value}
 
 -- ---- an empty box has no point
@@ -33,7 +34,7 @@ crosses-none (Some l) (Some u) x f g h = omega (arith, ints)
 any_crosses-none : (b : PlainBounds) (vs : List ℕ) (point : List ℤ) → IsWithin b point → list_any (λ v. crosses (lower_of b v) (upper_of b v)) vs ≡ true → ⊥
 any_crosses-none b [] point h any = absurd (cc)
 any_crosses-none b (v ∷ vs) point h any =
-    ⊎_elim (crosses-none (lower_of b v) (upper_of b v) (value_at point v) (h.above v) (h.below v)) (any_crosses-none b vs point h) (or_true (crosses (lower_of b v) (upper_of b v)) (list_any (λ w. crosses (lower_of b w) (upper_of b w)) vs) any)
+    ⊎_elim (crosses-none (lower_of b v) (upper_of b v) (value_at point v) (h.above v) (h.below v)) (any_crosses-none b vs point h) (or_cases (crosses (lower_of b v) (upper_of b v)) (list_any (λ w. crosses (lower_of b w) (upper_of b w)) vs) any)
 
 is_empty-none : (b : PlainBounds) (point : List ℤ) → IsWithin b point → is_empty b ≡ true → ⊥
 unfolding is_empty
@@ -45,10 +46,10 @@ fails_fixed-none : (a : PlainKeyAtom) (lo hi : Option ℤ) (x : ℤ) → IfSome 
 fails_fixed-none a None hi x f g holds h = absurd (cc)
 fails_fixed-none a (Some l) None x f g holds h = absurd (cc)
 fails_fixed-none a (Some l) (Some u) x f g holds h =
-    let two = and_true (int_eq l u) (not (passes a.op a.constant l)) h in
-    let same = int_eq-same l u two.0 in
+    let two = and_parts (int_eq l u) (not (passes a.op a.constant l)) h in
+    let same = (Decides-int_eq l u).0 two.0 in
     let value : l ≡ x = omega (arith, ints) in
-    not_both (passes a.op a.constant l) two.1 (subst (λ n. passes a.op a.constant n ≡ true) (sym value) holds)
+    both_ways (passes a.op a.constant l) (not-true (passes a.op a.constant l) two.1) (subst (λ n. passes a.op a.constant n ≡ true) (sym value) holds)
 
 fixed-none : (key : List PlainKeyAtom) (b : PlainBounds) (i : ℕ) (point : List ℤ) → IsWithin b point → KeyHolds key point → fixed_closes key b i ≡ true → ⊥
 unfolding fixed_closes
@@ -70,18 +71,18 @@ scale-negative (negsuc n) x c p h = scale_down n c x h
 weight-holds : (op : Op) (f c x w : ℤ) → weight op f ≡ Some w → passes op c x ≡ true → (w *ℤ x) ≤ℤ (w *ℤ c)
 weight-holds Le f c x w is holds =
     let given = chosen (is_positive_factor f) f w is in
-    let positive = and_true (is_factor f) (int_lt (pos 0) f) given.0 in
+    let positive = and_parts (is_factor f) (int_lt (pos 0) f) given.0 in
     let same : f ≡ w = given.1 in
     let above : int_lt (pos 0) f ≡ true = positive.1 in
     scale-positive w x c (omega (arith, ints)) (omega (arith, ints))
 weight-holds Ge f c x w is holds =
     let given = chosen (is_positive_factor f) (neg_ℤ f) w is in
-    let positive = and_true (is_factor f) (int_lt (pos 0) f) given.0 in
+    let positive = and_parts (is_factor f) (int_lt (pos 0) f) given.0 in
     let same : neg_ℤ f ≡ w = given.1 in
     let above : int_lt (pos 0) f ≡ true = positive.1 in
     scale-negative w x c (omega (arith, ints)) (omega (arith, ints))
 weight-holds Eq f c x w is holds =
-    let same = ap (λ (n : ℤ). w *ℤ n) (int_eq-same x c holds) in omega (arith, ints)
+    let same = ap (λ (n : ℤ). w *ℤ n) ((Decides-int_eq x c).0 holds) in omega (arith, ints)
 weight-holds Ne f c x w is holds = absurd (cc)
 
 -- the atom that a term names holds wherever the point is in the box
@@ -153,8 +154,8 @@ positive_sum-none b ms point h sound positive =
 combo-none : (key : List PlainKeyAtom) (box : PlainBox) (terms : List LeafTerm) (point : List ℤ) → AreNarrow key → KeyHolds key point → IsInBox key box point → combo_closes key box terms ≡ true → ⊥
 unfolding combo_closes
 combo-none key box terms point narrow holds h closed =
-    let long = and_true (nat_le 1 (length terms)) (nat_le (length terms) 8 && option_map_or (is_positive_sum box.bounds) (multiples_of key box.sides terms) false) closed in
-    let short = and_true (nat_le (length terms) 8) (option_map_or (is_positive_sum box.bounds) (multiples_of key box.sides terms) false) long.1 in
+    let long = and_parts (nat_le 1 (length terms)) (nat_le (length terms) 8 && option_map_or (is_positive_sum box.bounds) (multiples_of key box.sides terms) false) closed in
+    let short = and_parts (nat_le (length terms) 8) (option_map_or (is_positive_sum box.bounds) (multiples_of key box.sides terms) false) long.1 in
     let found = test_found (multiples_of key box.sides terms) (is_positive_sum box.bounds) short.1 in
     positive_sum-none box.bounds found.0 point h.within (multiples-sound key box terms found.0 point narrow holds h found.1) found.2
 

@@ -2,7 +2,7 @@
 use Rattle.std.proofs.Common.{◌≡◌, ℕ, zero, suc, ◌+◌, ◌<◌, ◌≤◌, ℤ, pos, ◌+ℤ◌, ◌-ℤ◌, ◌*ℤ◌, Bool, true, false, ◌&&◌, Option, Some, None, List, [], ◌∷◌, ◌++◌, map, length, get_or, take, slice_get, int_lt, nat_le, refl, ap, sym, ◌∙◌, arith}
 use Rattle.std.specs.List.{range_with_len}
 use Rattle.std.specs.Option.{option_map, option_and_then, option_map_or}
-use Rattle.std.proofs.lemmas.Bool.Decides.{nat_tests}
+use Rattle.std.proofs.lemmas.Bool.{le-leb, lt-leb, and_right}
 use Rattle.std.proofs.lemmas.Int.{ints}
 use Rattle.std.proofs.lemmas.List.{take_more, length-take}
 use Rattle.std.proofs.lemmas.List.FromFn.{get_or-map-range_with_len, length-map-range_with_len, fill_by_all}
@@ -28,16 +28,6 @@ fixed_closes-some key b i a is = ap (λ (o : Option PlainKeyAtom). option_map_or
 
 -- ---- Combo
 
-le_true : (m n : ℕ) → m ≤ n → nat_le m n ≡ true
-le_true m n h = grind (arith, nat_tests)
-
-le_false : (m n : ℕ) → n < m → nat_le m n ≡ false
-le_false m n h = grind (arith, nat_tests)
-
-and_false : (b c : Bool) → c ≡ false → (b && c) ≡ false
-and_false true c h = h
-and_false false c h = refl
-
 pub combo_closes-empty : (key : List PlainKeyAtom) (box : PlainBox) (terms : List LeafTerm) → length terms ≡ 0 → combo_closes key box terms ≡ false
 unfolding combo_closes
 combo_closes-empty key box [] h = refl
@@ -46,12 +36,12 @@ combo_closes-empty key box (t ∷ terms) h = absurd (omega arith)
 pub combo_closes-long : (key : List PlainKeyAtom) (box : PlainBox) (terms : List LeafTerm) → 8 < length terms → combo_closes key box terms ≡ false
 unfolding combo_closes
 combo_closes-long key box terms h =
-    and_false (nat_le 1 (length terms)) (nat_le (length terms) 8 && option_map_or (is_positive_sum box.bounds) (multiples_of key box.sides terms) false) (ap (λ (b : Bool). b && option_map_or (is_positive_sum box.bounds) (multiples_of key box.sides terms) false) (le_false (length terms) 8 h))
+    and_right (nat_le 1 (length terms)) (nat_le (length terms) 8 && option_map_or (is_positive_sum box.bounds) (multiples_of key box.sides terms) false) (ap (λ (b : Bool). b && option_map_or (is_positive_sum box.bounds) (multiples_of key box.sides terms) false) (lt-leb (length terms) 8 h))
 
 pub combo_closes-is : (key : List PlainKeyAtom) (box : PlainBox) (terms : List LeafTerm) → 0 < length terms → length terms ≤ 8 → combo_closes key box terms ≡ option_map_or (is_positive_sum box.bounds) (multiples_of key box.sides terms) false
 unfolding combo_closes
 combo_closes-is key box terms low high =
-    ap (λ (b : Bool). b && (nat_le (length terms) 8 && option_map_or (is_positive_sum box.bounds) (multiples_of key box.sides terms) false)) (le_true 1 (length terms) (omega arith)) ∙ ap (λ (b : Bool). b && option_map_or (is_positive_sum box.bounds) (multiples_of key box.sides terms) false) (le_true (length terms) 8 high)
+    ap (λ (b : Bool). b && (nat_le (length terms) 8 && option_map_or (is_positive_sum box.bounds) (multiples_of key box.sides terms) false)) (le-leb 1 (length terms) (omega arith)) ∙ ap (λ (b : Bool). b && option_map_or (is_positive_sum box.bounds) (multiples_of key box.sides terms) false) (le-leb (length terms) 8 high)
 
 -- ---- the multiples of the terms so far
 
@@ -68,7 +58,7 @@ bound_to_none : (o : Option Multiple) → option_and_then {U = List Multiple} (�
 bound_to_none None = refl
 bound_to_none (Some m) = refl
 
-multiples_of-none : (key : List PlainKeyAtom) (sides : List Side) (terms : List LeafTerm) (i : ℕ) (d : LeafTerm) → i < length terms → multiple_of key sides (get_or terms i d) ≡ None → multiples_of key sides terms ≡ None
+pub multiples_of-none : (key : List PlainKeyAtom) (sides : List Side) (terms : List LeafTerm) (i : ℕ) (d : LeafTerm) → i < length terms → multiple_of key sides (get_or terms i d) ≡ None → multiples_of key sides terms ≡ None
 multiples_of-none key sides [] i d lt is = absurd (omega arith)
 multiples_of-none key sides (u ∷ terms) zero d lt is = ap (option_and_then (λ n. option_map (λ ns. n ∷ ns) (multiples_of key sides terms))) is
 multiples_of-none key sides (u ∷ terms) (suc i) d lt is =

@@ -1,4 +1,8 @@
+pub mod UnitTerms
 pub mod Worked
+pub mod WorkedCuts
+pub mod WorkedGlance
+pub mod WorkedTrees
 pub mod Arithmetic
 pub mod LookUps
 pub mod Points

@@ -1,20 +1,8 @@
 -- What a test or a look-up that succeeds says of its parts.
-use Rattle.std.proofs.Common.{◌≡◌, ℕ, zero, suc, Bool, true, false, not, cond, ◌&&◌, ◌||◌, Option, Some, None, List, [], ◌∷◌, slice_get, ◌⊎◌, inl, inr, refl, subst}
+use Rattle.std.proofs.Common.{◌≡◌, ℕ, zero, suc, Bool, true, false, cond, Option, Some, None, List, [], ◌∷◌, slice_get, refl, subst}
 use Rattle.std.specs.List.{All}
 use Rattle.std.specs.Option.{IsSomeAnd, option_map, option_and_then, option_map_or}
 use Rattle.std.proofs.lemmas.List.Elements.{All-head, All-tail}
-
-pub and_true : (b c : Bool) → (b && c) ≡ true → (b ≡ true) × (c ≡ true)
-and_true true c h = (refl, h)
-and_true false c h = absurd (cc)
-
-pub or_true : (b c : Bool) → (b || c) ≡ true → (b ≡ true) ⊎ (c ≡ true)
-or_true true c h = inl refl
-or_true false c h = inr h
-
-pub not_both : (t : Bool) → not t ≡ true → t ≡ true → ⊥
-not_both true p q = absurd (cc)
-not_both false p q = absurd (cc)
 
 -- a choice that has a value took its first branch
 pub chosen : {X : Type 0} (b : Bool) (v w : X) → cond b (Some v) None ≡ Some w → (b ≡ true) × (v ≡ w)

@@ -1,12 +1,10 @@
 -- Where the points that satisfy a key lie: in the key's bounds, and after a split in one of the halves.
 use Rattle.std.proofs.Common.{◌≡◌, ℕ, zero, suc, ℤ, pos, neg_ℤ, ◌+ℤ◌, ◌-ℤ◌, ◌*ℤ◌, ◌≤ℤ◌, ◌<ℤ◌, Bool, true, false, not, cond, Option, Some, None, IfSome, IsTrue, List, [], ◌∷◌, map, get_or, set, slice_get, ◌⊎◌, inl, inr, ⊎_elim, refl, ap, sym, subst, arith, eqb, eqb-true, int_lt, int_le}
 use Rattle.std.specs.Int.{int_min, int_max}
-use Rattle.std.specs.declared.cmp.Ordering.{Ordering}
-use Rattle.std.specs.declared.cmp.Ordering.TheVariants.{Less, Equal, Greater}
-use Rattle.std.specs.Ordering.{int_eq, int_cmp, is_eq, MatchOrdering}
+use Rattle.std.specs.Ordering.{int_eq}
 use Rattle.std.specs.Option.{option_map}
-use Rattle.std.proofs.lemmas.Bool.{cases_lt}
-use Rattle.std.proofs.lemmas.Cmp.{int_ranked}
+use Rattle.std.proofs.lemmas.Bool.{cases_lt, not-true, both_ways}
+use Rattle.std.proofs.lemmas.Bool.Decides.{Decides-int_eq}
 use Rattle.std.proofs.lemmas.Int.{ints, clamps, by_lt_z}
 use Rattle.std.proofs.lemmas.List.{get_or_past}
 use Rattle.std.proofs.lemmas.List.FromFn.{get_or-map-range_with_len, length-map-range_with_len}
@@ -26,26 +24,14 @@ use Rattle.refutation.specs.Reading.{names_ne}
 
 -- ---- tests
 
-same_if_tied : (o : Ordering) (a b : ℤ) → MatchOrdering o (a <ℤ b) (a ≡ b) (b <ℤ a) → is_eq o ≡ true → a ≡ b
-same_if_tied Less a b m h = absurd (cc)
-same_if_tied Equal a b m h = m
-same_if_tied Greater a b m h = absurd (cc)
-
-apart_unless_tied : (o : Ordering) (a b : ℤ) → MatchOrdering o (a <ℤ b) (a ≡ b) (b <ℤ a) → not (is_eq o) ≡ true → (a <ℤ b) ⊎ (b <ℤ a)
-apart_unless_tied Less a b m h = inl m
-apart_unless_tied Equal a b m h = absurd (cc)
-apart_unless_tied Greater a b m h = inr m
-
-pub int_eq-same : (a b : ℤ) → int_eq a b ≡ true → a ≡ b
-int_eq-same a b h = same_if_tied (int_cmp a b) a b (int_ranked a b (int_cmp a b) refl) h
-
-pub int_eq-apart : (a b : ℤ) → not (int_eq a b) ≡ true → (a <ℤ b) ⊎ (b <ℤ a)
-int_eq-apart a b h = apart_unless_tied (int_cmp a b) a b (int_ranked a b (int_cmp a b) refl) h
+int_eq-apart : (a b : ℤ) → not (int_eq a b) ≡ true → (a <ℤ b) ⊎ (b <ℤ a)
+int_eq-apart a b h =
+    by_lt_z a b (λ less. inl less) (λ above. by_lt_z b a (λ more. inr more) (λ below. absurd (both_ways (int_eq a b) (not-true (int_eq a b) h) ((Decides-int_eq a b).1 (omega (arith, ints))))))
 
 le_test : (a b : ℤ) → a ≤ℤ b → int_le a b ≡ true
 le_test a b h = sym (true_is_le a b (le_out a b h))
 
-pub both_true : (b c : Bool) → cond b c false ≡ true → (b ≡ true) × (c ≡ true)
+both_true : (b c : Bool) → cond b c false ≡ true → (b ≡ true) × (c ≡ true)
 both_true true c h = (refl, h)
 both_true false c h = absurd (cc)
 
@@ -61,7 +47,7 @@ is_variable-value [] v point h = absurd (cc)
 is_variable-value (t ∷ []) v point h =
     let two = both_true (eqb t.var v) (int_eq t.coef (pos 1)) h in
     let var : t.var ≡ v = eqb-true t.var v two.0 in
-    let coef : t.coef ≡ pos 1 = int_eq-same t.coef (pos 1) two.1 in
+    let coef : t.coef ≡ pos 1 = (Decides-int_eq t.coef (pos 1)).0 two.1 in
     omega (arith, ints, ap (λ (k : ℤ). k *ℤ value_at point t.var) coef, ap (value_at point) var)
 is_variable-value (t ∷ u ∷ ts) v point h = absurd (cc)
 
@@ -78,13 +64,13 @@ upper_side-above c x h = unless-keeps (int_lt side_limit c) (int_max c (neg_ℤ 
 lower_by-below : (op : Op) (c x : ℤ) → IsTrue (passes op c x) → IfSome (lower_by op c) (λ n. n ≤ℤ x)
 lower_by-below Le c x h = tt
 lower_by-below Ge c x h = lower_side-below c x (omega (arith, ints))
-lower_by-below Eq c x h = let same = int_eq-same x c h in lower_side-below c x (omega (arith, ints))
+lower_by-below Eq c x h = let same = (Decides-int_eq x c).0 h in lower_side-below c x (omega (arith, ints))
 lower_by-below Ne c x h = tt
 
 upper_by-above : (op : Op) (c x : ℤ) → IsTrue (passes op c x) → IfSome (upper_by op c) (λ n. x ≤ℤ n)
 upper_by-above Le c x h = upper_side-above c x (omega (arith, ints))
 upper_by-above Ge c x h = tt
-upper_by-above Eq c x h = let same = int_eq-same x c h in upper_side-above c x (omega (arith, ints))
+upper_by-above Eq c x h = let same = (Decides-int_eq x c).0 h in upper_side-above c x (omega (arith, ints))
 upper_by-above Ne c x h = tt
 
 tighter_lower-below : (o q : Option ℤ) (x : ℤ) → IfSome o (λ n. n ≤ℤ x) → IfSome q (λ n. n ≤ℤ x) → IfSome (tighter_lower o q) (λ n. n ≤ℤ x)

@@ -5,7 +5,7 @@ use Rattle.std.proofs.lemmas.List.{drop_more, length-drop, drop-drop}
 use Rattle.std.proofs.Math.Seq.{take-length}
 use Rattle.std.proofs.Math.ListN.{drop_of_length-le}
 use Rattle.std.proofs.lemmas.Result.{IfOk-weaker}
-use Rattle.std.proofs.lemmas.Bool.Decides.{nat_tests}
+use Rattle.std.proofs.lemmas.Bool.{leb-true, and_parts}
 use Rattle.lin_model.specs.KeyAtom.{PlainKeyAtom}
 use Rattle.refutation.specs.declared.leaf.LeafTerm.{LeafTerm}
 use Rattle.refutation.specs.declared.node.Node.{Node}
@@ -15,7 +15,6 @@ use Rattle.refutation.specs.Box.{PlainBox, left_half, right_half, on_side}
 use Rattle.refutation.specs.Leaf.{combo_closes, fixed_closes}
 use Rattle.refutation.specs.Reading.{is_split, names_ne, Treated, treated, Ending, refuted, fails_at, ends_early, goes_on, reading}
 use Rattle.refutation.specs.Walk.{Puts, Treats}
-use Rattle.refutation.proofs.LookUps.{and_true}
 
 -- ---- one node
 
@@ -36,10 +35,7 @@ Treats-split_ne key box node i terms taken rest new is h =
 pub Treats-combo : (key : List PlainKeyAtom) (box : PlainBox) (node : Node) (count n : ℕ) (terms : List LeafTerm) (taken : Option ℕ) (rest new : List PlainBox) → node ≡ Combo count → n ≡ count → Puts (nat_le n (length terms) && combo_closes key box (take n terms)) [] n taken rest new → Treats (treated key box node terms) terms taken rest new
 unfolding treated
 Treats-combo key box node count n terms taken rest new is same h =
-    subst (λ (m : Node). Treats (treated key box m terms) terms taken rest new) (ap Combo same ∙ sym is) (Treats-from_choice (nat_le n (length terms) && combo_closes key box (take n terms)) [] n terms taken rest new (λ yes'. within n (length terms) (and_true (nat_le n (length terms)) (combo_closes key box (take n terms)) yes').0) h)
-  where
-    within : (m n : ℕ) → nat_le m n ≡ true → m ≤ n
-    within m n h = grind (arith, nat_tests)
+    subst (λ (m : Node). Treats (treated key box m terms) terms taken rest new) (ap Combo same ∙ sym is) (Treats-from_choice (nat_le n (length terms) && combo_closes key box (take n terms)) [] n terms taken rest new (λ yes'. leb-true n (length terms) (and_parts (nat_le n (length terms)) (combo_closes key box (take n terms)) yes').0) h)
 
 pub Treats-fixed : (key : List PlainKeyAtom) (box : PlainBox) (node : Node) (i : ℕ) (closed : Bool) (terms : List LeafTerm) (taken : Option ℕ) (rest new : List PlainBox) → node ≡ Fixed i → closed ≡ fixed_closes key box.bounds i → Puts closed [] 0 taken rest new → Treats (treated key box node terms) terms taken rest new
 unfolding treated

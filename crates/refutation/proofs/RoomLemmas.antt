@@ -2,7 +2,8 @@
 use Rattle.std.proofs.Common.{◌≡◌, ◌≢◌, ℕ, zero, suc, ◌+◌, ◌*◌, ◌<◌, ◌≤◌, ℤ, Bool, true, false, not, cond, ◌&&◌, ◌||◌, eqb, Some, None, List, [], ◌∷◌, ◌++◌, length, take, drop, nat_le, slice_get, refl, ap, sym, ◌∙◌, subst, arith}
 use Rattle.std.specs.List.{All, list_any, range_with_len}
 use Rattle.std.specs.Option.{IsSomeAnd}
-use Rattle.std.proofs.lemmas.Bool.Decides.{nat_tests}
+use Rattle.std.proofs.lemmas.Bool.{eq-eqb, ne_eqb, or_right, false_from_ne_true}
+use Rattle.std.proofs.Math.Nat.{mul-le-mul}
 use Rattle.std.proofs.lemmas.List.{length-append}
 use Rattle.std.proofs.lemmas.List.Elements.{All-nil, All-cons, All-append, All-head, All-tail}
 use Rattle.std.proofs.lemmas.List.Sums.{sum_by-append}
@@ -32,29 +33,19 @@ abbrev doubling_left : List Side → ℕ → List PlainKeyAtom → ℕ
 doubling_left sides n [] = 1
 doubling_left sides n (a ∷ atoms) = cond (is_ne a && not (is_named sides n)) 2 1 * doubling_left sides (n + 1) atoms
 
-eqb-other : (i j : ℕ) → i ≢ j → eqb i j ≡ false
-eqb-other i j h = grind (arith, nat_tests)
-
-eqb-same : (i j : ℕ) → i ≡ j → eqb i j ≡ true
-eqb-same i j h = grind (arith, nat_tests)
-
 -- what one side more names
 named-other : (sides : List Side) (side : Side) (n : ℕ) → side.atom ≢ n → is_named (sides ++ side ∷ []) n ≡ is_named sides n
-named-other [] side n other = ap (λ (b : Bool). b || false) (eqb-other side.atom n other)
+named-other [] side n other = ap (λ (b : Bool). b || false) (ne_eqb side.atom n other)
 named-other (s ∷ sides) side n other = ap (λ (b : Bool). eqb s.atom n || b) (named-other sides side n other)
 
 named-here : (sides : List Side) (side : Side) (n : ℕ) → side.atom ≡ n → is_named (sides ++ side ∷ []) n ≡ true
-named-here [] side n same = ap (λ (b : Bool). b || false) (eqb-same side.atom n same)
-named-here (s ∷ sides) side n same = or_second (eqb s.atom n) (is_named (sides ++ side ∷ []) n) (named-here sides side n same)
-  where
-    or_second : (b c : Bool) → c ≡ true → (b || c) ≡ true
-    or_second true c h = refl
-    or_second false c h = h
+named-here [] side n same = ap (λ (b : Bool). b || false) (eq-eqb side.atom n same)
+named-here (s ∷ sides) side n same = or_right (eqb s.atom n) (is_named (sides ++ side ∷ []) n) (named-here sides side n same)
 
 not_named : (sides : List Side) (n : ℕ) → All (λ side. side.atom ≢ n) sides → is_named sides n ≡ false
 not_named [] n h = refl
 not_named (s ∷ sides) n h =
-    ap (λ (b : Bool). b || is_named sides n) (eqb-other s.atom n (All-head (λ side. side.atom ≢ n) s sides h)) ∙ not_named sides n (All-tail (λ side. side.atom ≢ n) s sides h)
+    ap (λ (b : Bool). b || is_named sides n) (ne_eqb s.atom n (All-head (λ side. side.atom ≢ n) s sides h)) ∙ not_named sides n (All-tail (λ side. side.atom ≢ n) s sides h)
 
 and_not : (t u v : Bool) → t ≡ true → u ≡ v → (t && not u) ≡ not v
 and_not true u v h same = ap not same
@@ -125,12 +116,7 @@ record HasRoom (key : List PlainKeyAtom) (box : PlainBox) : Type 0 where
 
 weight-some : (key : List PlainKeyAtom) (box : PlainBox) → key_width key ≤ 64 → HasRoom key box → 1 ≤ weight_of key box
 weight-some key box narrow h =
-    product (points_over box.bounds (range_with_len 0 (key_width key))) (doubling_left box.sides 0 key) (points-some key box.bounds narrow h.boxed h.full) (doubling-some box.sides 0 key)
-  where
-    product : (x y : ℕ) → 1 ≤ x → 1 ≤ y → 1 ≤ x * y
-    product (suc x) (suc y) f g = omega arith
-    product zero y f g = absurd (omega arith)
-    product (suc x) zero f g = absurd (omega arith)
+    omega (arith, mul-le-mul (points-some key box.bounds narrow h.boxed h.full) (doubling-some box.sides 0 key))
 
 weight-many : (key : List PlainKeyAtom) (boxes : List PlainBox) → key_width key ≤ 64 → All (HasRoom key) boxes → length boxes ≤ weight_in key boxes
 weight-many key [] narrow h = omega arith
@@ -212,11 +198,7 @@ splits-few rule key (node ∷ nodes) terms (box ∷ boxes) narrow fit h =
 -- ---- the root of an open tree isn't empty
 
 undecided-full : (rule : Rule) (key : List PlainKeyAtom) (box : PlainBox) → IsUndecided rule key box → is_empty box.bounds ≡ false
-undecided-full rule key box h = by_test (is_empty box.bounds) refl
-  where
-    by_test : (b : Bool) → is_empty box.bounds ≡ b → is_empty box.bounds ≡ false
-    by_test true is = absurd (h.not_by_one (empty, refl, is))
-    by_test false is = is
+undecided-full rule key box h = false_from_ne_true (is_empty box.bounds) (λ is. h.not_by_one (empty, refl, is))
 
 -- no node follows a leaf that closes the last box
 none_follows : (rule : Rule) (key : List PlainKeyAtom) (nodes : List Node) (b : Bool) (terms : List LeafTerm) → IsSomeAnd (closed_by b terms) (λ (r : Treated). Searches rule key nodes r.terms (r.boxes ++ [])) → list_any is_left nodes ≡ true → ⊥

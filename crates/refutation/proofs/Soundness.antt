@@ -1,6 +1,7 @@
 -- A key that a tree refutes has no point.
 use Rattle.std.proofs.Common.{◌≡◌, ℕ, suc, ℤ, true, false, ◌&&◌, Option, Some, None, List, [], ◌∷◌, ◌++◌, length, take, drop, nat_le, ◌⊎◌, inl, inr, ⊎_elim, refl, subst}
 use Rattle.std.specs.Option.{option_map_or}
+use Rattle.std.proofs.lemmas.Bool.{and_parts}
 use Rattle.lin_model.specs.KeyAtom.{PlainKeyAtom}
 use Rattle.lin_model.specs.Key.{KeyHolds, IsKey}
 use Rattle.refutation.specs.declared.leaf.LeafTerm.{LeafTerm}
@@ -9,7 +10,7 @@ use Rattle.refutation.specs.declared.node.Node.TheVariants.{Split, NeSplit, Comb
 use Rattle.refutation.specs.Box.{PlainBox, root_box, IsInBox, left_half, right_half, on_side}
 use Rattle.refutation.specs.Leaf.{combo, fixed, empty, closes}
 use Rattle.refutation.specs.Reading.{Treated, treated, is_split, names_ne, Ending, refuted, fails_at, reading, Refutes, HasNoPoint}
-use Rattle.refutation.proofs.LookUps.{and_true, chosen}
+use Rattle.refutation.proofs.LookUps.{chosen}
 use Rattle.refutation.proofs.Points.{root_box-has, split-covers, sides-cover}
 use Rattle.refutation.proofs.ClosedBoxes.{AreNarrow, closes-none, IsKey-narrow}
 
@@ -39,7 +40,7 @@ treated-keeps key box (NeSplit i) terms r point narrow holds h is =
     subst (λ (t : Treated). SomeBox key point t.boxes) two.1 (⊎_elim inl (λ right. inr (inl right)) (sides-cover key box i point two.0 holds h))
 treated-keeps key box (Combo count) terms r point narrow holds h is =
     let closed = chosen (nat_le count (length terms) && closes key box (combo (take count terms))) (record { boxes = []; terms = drop count terms }) r is in
-    absurd (closes-none key box (combo (take count terms)) point narrow holds h (and_true (nat_le count (length terms)) (closes key box (combo (take count terms))) closed.0).1)
+    absurd (closes-none key box (combo (take count terms)) point narrow holds h (and_parts (nat_le count (length terms)) (closes key box (combo (take count terms))) closed.0).1)
 treated-keeps key box (Fixed i) terms r point narrow holds h is =
     let closed = chosen (closes key box (fixed i)) (record { boxes = []; terms = terms }) r is in
     absurd (closes-none key box (fixed i) point narrow holds h closed.0)

@@ -2,15 +2,17 @@
 use Rattle.std.proofs.Common.{◌≡◌, ◌≢◌, ℕ, zero, suc, ◌+◌, ◌*◌, ◌<◌, ◌≤◌, ℤ, pos, ◌+ℤ◌, ◌-ℤ◌, ◌≤ℤ◌, ◌<ℤ◌, Bool, true, false, cond, Option, Some, None, is_some, List, length, get_or, unsigned_abs, ⊎_elim, refl, ap, sym, ◌∙◌, subst, arith, int_lt}
 use Rattle.std.specs.Int.{int_min, int_max}
 use Rattle.std.specs.List.{range_with_len}
-use Rattle.std.proofs.lemmas.Bool.{cases_lt}
+use Rattle.std.proofs.lemmas.Bool.{cases_lt, cases_eq, both_ways, false_from_ne_true}
 use Rattle.std.proofs.lemmas.Int.{ints, clamps}
 use Rattle.std.proofs.lemmas.List.{get_or-set_same, get_or-set_other, get_or_past}
+use Rattle.std.proofs.Math.Nat.{mul-le-mul}
 use Rattle.lin_model.specs.KeyAtom.{PlainKeyAtom}
 use Rattle.lin_model.specs.Key.{key_width}
 use Rattle.refutation.specs.Bounds.{PlainBounds, lower_of, upper_of, with_lower, with_upper, crosses, is_empty, tighter_lower, tighter_upper}
 use Rattle.refutation.specs.Box.{PlainBox}
 use Rattle.refutation.specs.Boxed.{IsBoxedIn}
 use Rattle.refutation.specs.SearchTree.{number_between, points_over, IsFairSplit}
+use Rattle.refutation.proofs.Arithmetic.{int_lt-false}
 use Rattle.refutation.proofs.BoundsLemmas.{is_empty-true, is_empty-false}
 
 -- ---- sides that are there
@@ -25,9 +27,6 @@ pub record IsCut (b : PlainBounds) (v : ℕ) (lo hi cut : ℤ) : Type 0 where
 
 in_list : (xs : List (Option ℤ)) (v : ℕ) (n : ℤ) → get_or xs v None ≡ Some n → v < length xs
 in_list xs v n is = ⊎_elim (λ lt. lt) (λ le. let past = get_or_past xs v None le in absurd (cc)) (cases_lt v (length xs))
-
-by_same : {P : Type 0} (w v : ℕ) → (w ≡ v → P) → (w ≢ v → P) → P
-by_same w v f g = ⊎_elim (λ lt. g (λ e. omega arith)) (λ ge. ⊎_elim (λ lt. g (λ e. omega arith)) (λ le. f (omega arith)) (cases_lt v w)) (cases_lt w v)
 
 upper-cut : (b : PlainBounds) (v : ℕ) (lo hi cut : ℤ) → IsCut b v lo hi cut → upper_of (with_upper b v cut) v ≡ Some cut
 upper-cut b v lo hi cut h =
@@ -48,35 +47,24 @@ lower-other b v w cut other = get_or-set_other b.lower v w (tighter_lower (lower
 -- what holds of the new side and of the old sides holds of all sides of a half
 pub each_upper : (b : PlainBounds) (v : ℕ) (lo hi cut : ℤ) (w : ℕ) (Q : Option ℤ → Type 0) → IsCut b v lo hi cut → (w ≡ v → Q (Some cut)) → Q (upper_of b w) → Q (upper_of (with_upper b v cut) w)
 each_upper b v lo hi cut w Q h f g =
-    by_same w v (λ same. subst (λ u. Q (upper_of (with_upper b v cut) u)) (sym same) (subst Q (sym (upper-cut b v lo hi cut h)) (f same))) (λ other. subst Q (sym (upper-other b v w cut other)) g)
+    ⊎_elim (λ same. subst (λ u. Q (upper_of (with_upper b v cut) u)) (sym same) (subst Q (sym (upper-cut b v lo hi cut h)) (f same))) (λ other. subst Q (sym (upper-other b v w cut other)) g) (cases_eq w v)
 
 pub each_lower : (b : PlainBounds) (v : ℕ) (lo hi cut : ℤ) (w : ℕ) (Q : Option ℤ → Type 0) → IsCut b v lo hi cut → (w ≡ v → Q (Some (cut +ℤ pos 1))) → Q (lower_of b w) → Q (lower_of (with_lower b v (cut +ℤ pos 1)) w)
 each_lower b v lo hi cut w Q h f g =
-    by_same w v (λ same. subst (λ u. Q (lower_of (with_lower b v (cut +ℤ pos 1)) u)) (sym same) (subst Q (sym (lower-cut b v lo hi cut h)) (f same))) (λ other. subst Q (sym (lower-other b v w cut other)) g)
+    ⊎_elim (λ same. subst (λ u. Q (lower_of (with_lower b v (cut +ℤ pos 1)) u)) (sym same) (subst Q (sym (lower-cut b v lo hi cut h)) (f same))) (λ other. subst Q (sym (lower-other b v w cut other)) g) (cases_eq w v)
 
 -- ---- emptiness
 
 pub not_crossed : (b : PlainBounds) (v : ℕ) → v < 64 → is_empty b ≡ false → crosses (lower_of b v) (upper_of b v) ≡ false
-not_crossed b v lt full = by_test (crosses (lower_of b v) (upper_of b v)) refl
-  where
-    by_test : (t : Bool) → crosses (lower_of b v) (upper_of b v) ≡ t → crosses (lower_of b v) (upper_of b v) ≡ false
-    by_test true is = let empty = is_empty-true b v lt is in absurd (cc)
-    by_test false is = is
-
-apart : (n m : ℤ) → m ≤ℤ n → int_lt n m ≡ false
-apart n m h = by_test (int_lt n m) refl
-  where
-    by_test : (t : Bool) → int_lt n m ≡ t → int_lt n m ≡ false
-    by_test true is = absurd (omega (arith, ints))
-    by_test false is = is
+not_crossed b v lt full = false_from_ne_true (crosses (lower_of b v) (upper_of b v)) (λ is. both_ways (is_empty b) full (is_empty-true b v lt is))
 
 pub left-not_empty : (b : PlainBounds) (v : ℕ) (lo hi cut : ℤ) → IsCut b v lo hi cut → is_empty b ≡ false → is_empty (with_upper b v cut) ≡ false
 left-not_empty b v lo hi cut h full =
-    is_empty-false (with_upper b v cut) (λ w lt. each_upper b v lo hi cut w (λ o. crosses (lower_of b w) o ≡ false) h (λ same. ap (λ (o : Option ℤ). crosses o (Some cut)) (ap (lower_of b) same ∙ h.lower) ∙ apart cut lo h.from) (not_crossed b w lt full))
+    is_empty-false (with_upper b v cut) (λ w lt. each_upper b v lo hi cut w (λ o. crosses (lower_of b w) o ≡ false) h (λ same. ap (λ (o : Option ℤ). crosses o (Some cut)) (ap (lower_of b) same ∙ h.lower) ∙ int_lt-false cut lo h.from) (not_crossed b w lt full))
 
 pub right-not_empty : (b : PlainBounds) (v : ℕ) (lo hi cut : ℤ) → IsCut b v lo hi cut → is_empty b ≡ false → is_empty (with_lower b v (cut +ℤ pos 1)) ≡ false
 right-not_empty b v lo hi cut h full =
-    is_empty-false (with_lower b v (cut +ℤ pos 1)) (λ w lt. each_lower b v lo hi cut w (λ o. crosses o (upper_of b w) ≡ false) h (λ same. ap (λ (o : Option ℤ). crosses (Some (cut +ℤ pos 1)) o) (ap (upper_of b) same ∙ h.upper) ∙ apart hi (cut +ℤ pos 1) (omega (arith, ints, h.to))) (not_crossed b w lt full))
+    is_empty-false (with_lower b v (cut +ℤ pos 1)) (λ w lt. each_lower b v lo hi cut w (λ o. crosses o (upper_of b w) ≡ false) h (λ same. ap (λ (o : Option ℤ). crosses (Some (cut +ℤ pos 1)) o) (ap (upper_of b) same ∙ h.upper) ∙ int_lt-false hi (cut +ℤ pos 1) (omega (arith, ints, h.to))) (not_crossed b w lt full))
 
 -- both sides of every variable are there in both halves
 pub left-boxed : (key : List PlainKeyAtom) (b : PlainBounds) (v : ℕ) (lo hi cut : ℤ) → IsCut b v lo hi cut → IsBoxedIn key b → IsBoxedIn key (with_upper b v cut)
@@ -114,11 +102,11 @@ times_rest x y n p q r same_x same_y total =
 shared_over : (b c d : PlainBounds) (v a n : ℕ) → Shares b c d v → a ≤ v → v < a + n → points_over c (range_with_len a n) + points_over d (range_with_len a n) ≡ points_over b (range_with_len a n)
 shared_over b c d v a zero h low high = absurd (omega arith)
 shared_over b c d v a (suc n) h low high =
-    by_same a v (λ same. times_first (number c a) (number d a) (number b a) (points_over c (range_with_len (a + 1) n)) (points_over d (range_with_len (a + 1) n)) (points_over b (range_with_len (a + 1) n)) (same_over b c (a + 1) n (λ w lo hi. h.first w (λ e. omega arith))) (same_over b d (a + 1) n (λ w lo hi. h.second w (λ e. omega arith))) (subst (λ u. number c u + number d u ≡ number b u) (sym same) h.at)) (λ other. times_rest (number c a) (number d a) (number b a) (points_over c (range_with_len (a + 1) n)) (points_over d (range_with_len (a + 1) n)) (points_over b (range_with_len (a + 1) n)) (h.first a other) (h.second a other) (shared_over b c d v (a + 1) n h (omega (arith, other)) (omega arith)))
+    ⊎_elim (λ same. times_first (number c a) (number d a) (number b a) (points_over c (range_with_len (a + 1) n)) (points_over d (range_with_len (a + 1) n)) (points_over b (range_with_len (a + 1) n)) (same_over b c (a + 1) n (λ w lo hi. h.first w (λ e. omega arith))) (same_over b d (a + 1) n (λ w lo hi. h.second w (λ e. omega arith))) (subst (λ u. number c u + number d u ≡ number b u) (sym same) h.at)) (λ other. times_rest (number c a) (number d a) (number b a) (points_over c (range_with_len (a + 1) n)) (points_over d (range_with_len (a + 1) n)) (points_over b (range_with_len (a + 1) n)) (h.first a other) (h.second a other) (shared_over b c d v (a + 1) n h (omega (arith, other)) (omega arith))) (cases_eq a v)
 
 -- the numbers from lo to the cut, and from behind it to hi
 between : (lo hi : ℤ) → lo ≤ℤ hi → number_between (Some lo) (Some hi) ≡ suc (unsigned_abs (hi -ℤ lo))
-between lo hi h = ap (λ (t : Bool). cond t 0 (suc (unsigned_abs (hi -ℤ lo)))) (apart hi lo h)
+between lo hi h = ap (λ (t : Bool). cond t 0 (suc (unsigned_abs (hi -ℤ lo)))) (int_lt-false hi lo h)
 
 parts : (lo hi cut : ℤ) → lo ≤ℤ cut → cut <ℤ hi → number_between (Some lo) (Some cut) + number_between (Some (cut +ℤ pos 1)) (Some hi) ≡ number_between (Some lo) (Some hi)
 parts lo hi cut low high =
@@ -144,14 +132,10 @@ some_number None q f g h = absurd (cc)
 some_number (Some l) None f g h = absurd (cc)
 some_number (Some l) (Some u) f g h = subst (λ (t : Bool). 1 ≤ cond t 0 (suc (unsigned_abs (u -ℤ l)))) (sym h) (omega arith)
 
-product_some : (x y : ℕ) → 1 ≤ x → 1 ≤ y → 1 ≤ x * y
-product_some (suc x) (suc y) f g = omega arith
-product_some zero y f g = absurd (omega arith)
-product_some (suc x) zero f g = absurd (omega arith)
-
 some_over : (b : PlainBounds) (a n : ℕ) → ((w : ℕ) → a ≤ w → w < a + n → 1 ≤ number b w) → 1 ≤ points_over b (range_with_len a n)
 some_over b a zero h = omega arith
-some_over b a (suc n) h = product_some (number b a) (points_over b (range_with_len (a + 1) n)) (h a (omega arith) (omega arith)) (some_over b (a + 1) n (λ w low high. h w (omega arith) (omega arith)))
+some_over b a (suc n) h =
+    omega (arith, mul-le-mul (h a (omega arith) (omega arith)) (some_over b (a + 1) n (λ w low high. h w (omega arith) (omega arith))))
 
 pub points-some : (key : List PlainKeyAtom) (b : PlainBounds) → key_width key ≤ 64 → IsBoxedIn key b → is_empty b ≡ false → 1 ≤ points_over b (range_with_len 0 (key_width key))
 points-some key b narrow boxed full =

@@ -1,8 +1,7 @@
 -- Sums kept as one coefficient for each variable.
-use Rattle.std.proofs.Common.{◌≡◌, ℕ, zero, suc, ◌+◌, ◌*◌, ◌^◌, ◌<◌, ◌≤◌, ℤ, pos, ◌+ℤ◌, ◌*ℤ◌, Bool, true, false, cond, eqb, Option, Some, None, List, [], ◌∷◌, length, get_or, set, drop, replicate, unsigned_abs, ⊎_elim, refl, ap, sym, ◌∙◌, subst, arith}
+use Rattle.std.proofs.Common.{◌≡◌, ℕ, ◌+◌, ◌*◌, ◌^◌, ◌<◌, ◌≤◌, ℤ, pos, ◌+ℤ◌, ◌*ℤ◌, Bool, true, false, cond, eqb, Option, Some, None, List, [], ◌∷◌, length, get_or, set, drop, replicate, unsigned_abs, ⊎_elim, ap, sym, ◌∙◌, subst, arith}
 use Rattle.std.specs.List.{All}
-use Rattle.std.proofs.lemmas.Bool.{cases_lt}
-use Rattle.std.proofs.lemmas.Bool.Decides.{nat_tests}
+use Rattle.std.proofs.lemmas.Bool.{cases_eq, cond-true, cond-false, eq-eqb, ne_eqb}
 use Rattle.std.proofs.lemmas.Int.{ints, unsigned_abs-mul}
 use Rattle.std.proofs.lemmas.List.{get_or-set_same, get_or-set_other, drop_more}
 use Rattle.std.proofs.lemmas.List.FromFn.{get_or-map-range_with_len, length-map-range_with_len}
@@ -15,17 +14,12 @@ use Rattle.refutation.specs.Bounds.{PlainBounds, lower_of, upper_of, variables, 
 use Rattle.refutation.specs.Leaf.{coefficient_of, Multiple}
 use Rattle.refutation.specs.Sum.{PlainSum, coef_at, dense_form, AddsMultiple, IsSum}
 use Rattle.refutation.proofs.Arithmetic.{distrib_left}
-use Rattle.refutation.proofs.BoundsLemmas.{least_step, least_missing, least_end}
+use Rattle.refutation.proofs.BoundsLemmas.{get_or-same, least_step, least_missing, least_end}
 
 -- ---- the sum of nothing
 
-get_or-zeros : (n v : ℕ) → get_or {A = ℤ} (replicate n (pos 0)) v (pos 0) ≡ pos 0
-get_or-zeros zero v = refl
-get_or-zeros (suc n) zero = refl
-get_or-zeros (suc n) (suc v) = get_or-zeros n v
-
 pub zero_at : (coefs : List ℤ) (v : ℕ) → coefs ≡ replicate 64 (pos 0) → get_or coefs v (pos 0) ≡ pos 0
-zero_at coefs v is = ap (λ (xs : List ℤ). get_or xs v (pos 0)) is ∙ get_or-zeros 64 v
+zero_at coefs v is = ap (λ (xs : List ℤ). get_or xs v (pos 0)) is ∙ get_or-same 64 v (pos 0)
 
 -- ---- one form more
 
@@ -37,21 +31,12 @@ scaled_step coefs form weight i d var more new v whole lt is product added withi
     let unfolded : coefficient_of (drop i form) v ≡ (cond (eqb t.var v) t.coef (pos 0)) +ℤ rest = ap (λ (f : List FormTerm). coefficient_of f v) (drop_more form i d lt) in
     let scaled = ap (λ (n : ℤ). weight *ℤ n) unfolded in
     let split = distrib_left weight (cond (eqb t.var v) t.coef (pos 0)) rest in
-    by_eq var v (λ same. let hit = ap (λ (n : ℤ). weight *ℤ n) (chosen_here t.var v t.coef (sym is ∙ same)) in
+    ⊎_elim (λ same. let hit = ap (λ (n : ℤ). weight *ℤ n) (cond-true (eqb t.var v) t.coef (pos 0) (eq-eqb t.var v (sym is ∙ same))) in
     let read = ap (λ (u : ℕ). get_or coefs u (pos 0)) same in
     let written : get_or (set coefs var new) v (pos 0) ≡ new = subst (λ u. get_or (set coefs var new) u (pos 0) ≡ new) same (get_or-set_same coefs var new (pos 0) within) in
-    omega (arith, ints, scaled, split, hit, read, written, before, added, product)) (λ other. let missed = ap (λ (n : ℤ). weight *ℤ n) (chosen_elsewhere t.var v t.coef (λ e. other (is ∙ e))) in
+    omega (arith, ints, scaled, split, hit, read, written, before, added, product)) (λ other. let missed = ap (λ (n : ℤ). weight *ℤ n) (cond-false (eqb t.var v) t.coef (pos 0) (ne_eqb t.var v (λ e. other (is ∙ e)))) in
     let kept : get_or (set coefs var new) v (pos 0) ≡ get_or coefs v (pos 0) = get_or-set_other coefs var v new (pos 0) (λ e. other (sym e)) in
-    omega (arith, ints, scaled, split, missed, kept, before))
-  where
-    chosen_here : (w v : ℕ) (n : ℤ) → w ≡ v → cond (eqb w v) n (pos 0) ≡ n
-    chosen_here w v n h = grind (arith, nat_tests)
-
-    chosen_elsewhere : (w v : ℕ) (n : ℤ) → (w ≡ v → ⊥) → cond (eqb w v) n (pos 0) ≡ pos 0
-    chosen_elsewhere w v n h = grind (arith, nat_tests)
-
-    by_eq : (w v : ℕ) → {P : Type 0} → (w ≡ v → P) → ((w ≡ v → ⊥) → P) → P
-    by_eq w v f g = ⊎_elim (λ lt. g (λ e. omega arith)) (λ ge. ⊎_elim (λ lt. g (λ e. omega arith)) (λ le. f (omega arith)) (cases_lt v w)) (cases_lt w v)
+    omega (arith, ints, scaled, split, missed, kept, before)) (cases_eq var v)
 
 pub scaled_end : (form : List FormTerm) (weight old : ℤ) (i v : ℕ) (whole : ℤ) → length form ≤ i → old +ℤ (weight *ℤ coefficient_of (drop i form) v) ≡ whole → old ≡ whole
 scaled_end form weight old i v whole le h =

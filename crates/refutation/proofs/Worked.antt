@@ -1,38 +1,42 @@
--- The definitions on small worked values, as the checker computes them.
-use Rattle.std.proofs.Common.{◌≡◌, ℕ, ℤ, pos, negsuc, true, List, [], ◌∷◌, Some, None, refl}
+-- Bounds, leaves and the reading of trees on small worked values, as the checker computes them.
+use Rattle.std.proofs.Common.{◌≡◌, ℕ, zero, suc, ℤ, pos, negsuc, true, false, List, [], ◌∷◌, ◌++◌, Some, None, refl, arith}
 use Rattle.lin_model.specs.declared.form.FormTerm.{FormTerm}
 use Rattle.lin_model.specs.declared.op.Op.{Op}
 use Rattle.lin_model.specs.declared.op.Op.TheVariants.{Le, Ge, Eq, Ne}
 use Rattle.lin_model.specs.KeyAtom.{PlainKeyAtom}
+use Rattle.lin_model.specs.Bounded.{variable}
 use Rattle.refutation.specs.declared.leaf.LeafTerm.{LeafTerm}
 use Rattle.refutation.specs.declared.leaf.On.TheVariants.{Atom as OnAtom, Side as OnSide}
 use Rattle.refutation.specs.declared.node.Node.TheVariants.{Split, NeSplit, Combo, Fixed, Empty, Left}
 use Rattle.refutation.specs.Bounds.{variables, lower_of, upper_of, key_bounds, is_empty, least, greatest}
-use Rattle.refutation.specs.Box.{root_box}
+use Rattle.refutation.specs.Boxed.{IsBoxed}
 use Rattle.refutation.specs.Leaf.{combo_closes, fixed_closes, summed_form, is_positive_sum}
 use Rattle.refutation.specs.Reading.{Refutes, FailsAt, EndsEarly, GoesOn, treated, reading}
-use Rattle.refutation.specs.Cut.{cut, upper_cut, lower_cut}
-use Rattle.refutation.specs.SearchOrder.{step, lowest_corner}
-use Rattle.refutation.specs.SearchTree.{room}
+
+-- `a*v0 + b*v1`
+abbrev pub sum_of : ℤ → ℤ → List FormTerm
+sum_of a b = record { var = 0; coef = a } ∷ record { var = 1; coef = b } ∷ []
 
 -- `v0 - v1`
-abbrev difference : List FormTerm
-difference = record { var = 0; coef = pos 1 } ∷ record { var = 1; coef = negsuc 0 } ∷ []
+abbrev pub difference : List FormTerm
+difference = sum_of (pos 1) (negsuc 0)
 
-abbrev variable : ℕ → List FormTerm
-variable v = record { var = v; coef = pos 1 } ∷ []
-
-abbrev atom : List FormTerm → Op → ℤ → PlainKeyAtom
+abbrev pub atom : List FormTerm → Op → ℤ → PlainKeyAtom
 atom form op constant = record { form = form; op = op; constant = constant }
 
-abbrev on_atom : ℕ → ℤ → LeafTerm
+abbrev pub on_atom : ℕ → ℤ → LeafTerm
 on_atom i factor = record { on = OnAtom i; factor = factor }
 
-abbrev on_side : ℕ → ℤ → LeafTerm
+abbrev pub on_side : ℕ → ℤ → LeafTerm
 on_side i factor = record { on = OnSide i; factor = factor }
 
+-- the atoms over v0 from 0 to m and v1 from 0 to n
+abbrev pub over : ℕ → ℕ → List PlainKeyAtom → List PlainKeyAtom
+over m n atoms =
+    atom (variable 0) Le (pos m) ∷ atom (variable 0) Ge (pos 0) ∷ (atoms ++ atom (variable 1) Le (pos n) ∷ atom (variable 1) Ge (pos 0) ∷ [])
+
 -- `v0 - v1 <= -1` with `v0 - v1 >= 1`
-abbrev crossed : List PlainKeyAtom
+abbrev pub crossed : List PlainKeyAtom
 crossed = atom difference Le (negsuc 0) ∷ atom difference Ge (pos 1) ∷ []
 
 -- the sum of the two is 2, everywhere
@@ -76,7 +80,7 @@ unfolding reading treated combo_closes summed_form is_positive_sum least variabl
 check_left_fails = refl
 
 -- `v0 - v1 <= 0`, `v0 - v1 >= 0`, `v0 - v1 != 0`: one split by the atom `!=`, and a sum of two on each side
-abbrev pinned : List PlainKeyAtom
+abbrev pub pinned : List PlainKeyAtom
 pinned = atom difference Le (pos 0) ∷ atom difference Ge (pos 0) ∷ atom difference Ne (pos 0) ∷ []
 
 check_ne_split : Refutes pinned (NeSplit 2 ∷ Combo 2 ∷ Combo 2 ∷ []) (on_atom 1 (pos 1) ∷ on_side 0 (pos 1) ∷ on_atom 0 (pos 1) ∷ on_side 0 (pos 1) ∷ [])
@@ -89,7 +93,7 @@ unfolding reading treated combo_closes summed_form is_positive_sum least variabl
 check_wrong_side = refl
 
 -- `v0 = 3`, `v0 != 3`: the form has one value
-abbrev one_value : List PlainKeyAtom
+abbrev pub one_value : List PlainKeyAtom
 one_value = atom (variable 0) Eq (pos 3) ∷ atom (variable 0) Ne (pos 3) ∷ []
 
 check_fixed : Refutes one_value (Fixed 1 ∷ []) []
@@ -105,6 +109,10 @@ check_clipped_lower : lower_of (key_bounds (atom (variable 0) Ge (pos 4294967299
 unfolding key_bounds variables
 check_clipped_lower = refl
 
+check_clipped_upper : upper_of (key_bounds (atom (variable 0) Le (negsuc 4294967298) ∷ [])) 0 ≡ Some (negsuc 4294967295)
+unfolding key_bounds variables
+check_clipped_upper = refl
+
 check_missing_lower : lower_of (key_bounds (atom (variable 0) Ge (negsuc 4294967299) ∷ [])) 0 ≡ None
 unfolding key_bounds variables
 check_missing_lower = refl
@@ -118,20 +126,12 @@ check_empty : Refutes (atom (variable 0) Le (pos 3) ∷ atom (variable 0) Ge (po
 unfolding reading treated is_empty variables key_bounds
 check_empty = refl
 
--- `v0 + 2*v1 <= 9` over 0 to 9 each: v1 is at most 4
-abbrev boxed : List PlainKeyAtom
-boxed =
-    atom (variable 0) Le (pos 9) ∷ atom (variable 0) Ge (pos 0) ∷ atom (record { var = 0; coef = pos 1 } ∷ record { var = 1; coef = pos 2 } ∷ []) Le (pos 9) ∷ atom (record { var = 0; coef = pos 1 } ∷ record { var = 1; coef = pos 2 } ∷ []) Ge (pos 5) ∷ atom (variable 1) Le (pos 9) ∷ atom (variable 1) Ge (pos 0) ∷ []
+-- `v0 <= 1`, `v0 >= 0` is boxed; `v0 <= 1`, `v0 != 0` has no lower side
+check_boxed : IsBoxed (atom (variable 0) Le (pos 1) ∷ atom (variable 0) Ge (pos 0) ∷ [])
+unfolding key_bounds variables
+check_boxed zero lt = record { lower = refl; upper = refl }
+check_boxed (suc v) lt = absurd (omega arith)
 
-check_cut : cut (key_bounds boxed) (atom (record { var = 0; coef = pos 1 } ∷ record { var = 1; coef = pos 2 } ∷ []) Le (pos 9)) 1 ≡ Some (record { value = pos 4; upper = true })
-unfolding cut upper_cut lower_cut least greatest key_bounds variables
-check_cut = refl
-
--- the lowest corner (0, 0) fails `v0 + 2*v1 >= 5`, which raises no side by itself: v0 and v1 are equally wide
-check_step : step boxed (root_box boxed) ≡ Some (Split 0 (pos 4))
-unfolding step lowest_corner cut upper_cut lower_cut least greatest key_bounds variables
-check_step = refl
-
-check_room : room boxed ≡ 100
-unfolding room key_bounds variables
-check_room = refl
+check_not_boxed : ¬ IsBoxed (atom (variable 0) Le (pos 1) ∷ atom (variable 0) Ne (pos 0) ∷ [])
+unfolding key_bounds variables
+check_not_boxed h = let no_side : false ≡ true = (h 0 (omega arith)).lower in absurd (cc)

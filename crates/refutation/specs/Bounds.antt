@@ -10,14 +10,16 @@ use Rattle.lin_model.specs.declared.op.Op.TheVariants.{Le, Ge, Eq, Ne}
 use Rattle.lin_model.specs.Form.{value_at}
 use Rattle.lin_model.specs.KeyAtom.{PlainKeyAtom}
 
--- a lower and an upper side for each of 64 variables, None where a side is missing
+-- the least and the greatest value that each of 64 variables may take, None where there is no such side
 pub record PlainBounds : Type 0 where
   pub lower : List (Option ℤ)
   pub upper : List (Option ℤ)
 
+-- the lower side of a variable
 abbrev pub lower_of : PlainBounds → ℕ → Option ℤ
 lower_of b v = slice_index_or b.lower v None
 
+-- the upper side of a variable
 abbrev pub upper_of : PlainBounds → ℕ → Option ℤ
 upper_of b v = slice_index_or b.upper v None
 
@@ -45,42 +47,46 @@ is_variable [] v = false
 is_variable (t ∷ []) v = if t.var == v then int_eq t.coef (pos 1) else false
 is_variable (t ∷ u ∷ ts) v = false
 
--- the sides that a comparison of a variable with c gives
+-- the lower side that a comparison of a variable with c gives
 abbrev pub lower_by : Op → ℤ → Option ℤ
 lower_by Le c = None
 lower_by Ge c = lower_side c
 lower_by Eq c = lower_side c
 lower_by Ne c = None
 
+-- the upper side that a comparison of a variable with c gives
 abbrev pub upper_by : Op → ℤ → Option ℤ
 upper_by Le c = upper_side c
 upper_by Ge c = None
 upper_by Eq c = upper_side c
 upper_by Ne c = None
 
--- the tighter of two lower sides, and of two upper sides; a missing one is the loosest
+-- the tighter of two lower sides; a missing one is the loosest
 abbrev pub tighter_lower : Option ℤ → Option ℤ → Option ℤ
 tighter_lower None o = o
 tighter_lower (Some x) None = Some x
 tighter_lower (Some x) (Some y) = Some (int_max x y)
 
+-- the tighter of two upper sides; a missing one is the loosest
 abbrev pub tighter_upper : Option ℤ → Option ℤ → Option ℤ
 tighter_upper None o = o
 tighter_upper (Some x) None = Some x
 tighter_upper (Some x) (Some y) = Some (int_min x y)
 
--- the sides of the variable v that an atom gives
+-- the lower side of the variable v that an atom gives
 abbrev pub lower_from : PlainKeyAtom → ℕ → Option ℤ
 lower_from a v = if is_variable a.form v then lower_by a.op a.constant else None
 
+-- the upper side of the variable v that an atom gives
 abbrev pub upper_from : PlainKeyAtom → ℕ → Option ℤ
 upper_from a v = if is_variable a.form v then upper_by a.op a.constant else None
 
--- the tightest lower and upper side of the variable v among those that the atoms give
+-- the tightest lower side of the variable v among those that the atoms give
 abbrev pub lower_bound : List PlainKeyAtom → ℕ → Option ℤ
 lower_bound [] v = None
 lower_bound (a ∷ atoms) v = tighter_lower (lower_from a v) (lower_bound atoms v)
 
+-- the tightest upper side of the variable v among those that the atoms give
 abbrev pub upper_bound : List PlainKeyAtom → ℕ → Option ℤ
 upper_bound [] v = None
 upper_bound (a ∷ atoms) v = tighter_upper (upper_from a v) (upper_bound atoms v)
@@ -91,10 +97,11 @@ key_bounds atoms = record { lower = map (lower_bound atoms) variables; upper = m
 
 -- ---- changes, and what lies within
 
--- the bounds with the upper side of v lowered to n, unless it is tighter already; and with the lower side raised to n
+-- the bounds with the upper side of v lowered to n, unless it is tighter already
 abbrev pub with_upper : PlainBounds → ℕ → ℤ → PlainBounds
 with_upper b v n = record { lower = b.lower; upper = slice_set b.upper v (tighter_upper (upper_of b v) (Some n)) }
 
+-- the bounds with the lower side of v raised to n, unless it is tighter already
 abbrev pub with_lower : PlainBounds → ℕ → ℤ → PlainBounds
 with_lower b v n = record { lower = slice_set b.lower v (tighter_lower (lower_of b v) (Some n)); upper = b.upper }
 

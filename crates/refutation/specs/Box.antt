@@ -38,14 +38,17 @@ is_ne_op Ge = false
 is_ne_op Eq = false
 is_ne_op Ne = true
 
+-- the atom is one `form != c`
 abbrev pub is_ne : PlainKeyAtom → Bool
 is_ne a = is_ne_op a.op
 
 -- ---- the two halves of a split
 
+-- the half with the variable at most at the cut
 abbrev pub left_half : PlainBox → ℕ → ℤ → PlainBox
 left_half box v cut = record { bounds = with_upper box.bounds v cut; sides = box.sides }
 
+-- the half with the variable above the cut
 abbrev pub right_half : PlainBox → ℕ → ℤ → PlainBox
 right_half box v cut = record { bounds = with_lower box.bounds v (cut +ℤ pos 1); sides = box.sides }
 

@@ -1,5 +1,6 @@
 -- Cuts: the bound of one variable that an atom gives within bounds.
-use Rattle.std.specs.Prelude.{ℕ, zero, suc, ◌/◌, ℤ, pos, negsuc, neg_ℤ, ◌-ℤ◌, Bool, true, false, not, ◌&&◌, if◌then◌else◌, ◌==◌, int_lt, int_le, Option, Some, None, is_some, List}
+use Rattle.std.specs.Prelude.{ℕ, zero, suc, ℤ, pos, negsuc, neg_ℤ, ◌-ℤ◌, Bool, true, false, not, ◌&&◌, if◌then◌else◌, ◌==◌, int_lt, int_le, Option, Some, None, is_some, List}
+use Rattle.std.specs.Int.{int_div_euclid}
 use Rattle.std.specs.List.{list_all, filter}
 use Rattle.std.specs.Option.{option_map, option_and_then}
 use Rattle.lin_model.specs.declared.form.FormTerm.{FormTerm}
@@ -13,28 +14,30 @@ pub record PlainCut : Type 0 where
   pub value : ℤ
   pub upper : Bool
 
--- the quotient rounded down, and rounded up
+-- the quotient by a positive number, rounded down
 abbrev pub floor_div : ℤ → ℕ → ℤ
-floor_div (pos n) d = pos (n / d)
-floor_div (negsuc n) d = negsuc (n / d)
+floor_div n d = int_div_euclid n (pos d)
 
+-- the quotient by a positive number, rounded up
 abbrev pub ceil_div : ℤ → ℕ → ℤ
 ceil_div n d = neg_ℤ (floor_div (neg_ℤ n) d)
 
--- the upper and the lower bound of v that `a * v <= n` gives
+-- the upper bound of v that `a * v <= n` gives
 abbrev pub upper_at_most : ℤ → ℤ → Option ℤ
 upper_at_most (pos zero) n = None
 upper_at_most (pos (suc k)) n = Some (floor_div n (suc k))
 upper_at_most (negsuc k) n = None
 
+-- the lower bound of v that `a * v <= n` gives
 abbrev pub lower_at_most : ℤ → ℤ → Option ℤ
 lower_at_most (pos k) n = None
 lower_at_most (negsuc k) n = Some (ceil_div (neg_ℤ n) (suc k))
 
--- those that `a * v >= n` gives, which is `-a * v <= -n`
+-- the upper bound that `a * v >= n` gives, which is `-a * v <= -n`
 abbrev pub upper_at_least : ℤ → ℤ → Option ℤ
 upper_at_least a n = upper_at_most (neg_ℤ a) (neg_ℤ n)
 
+-- the lower bound that `a * v >= n` gives
 abbrev pub lower_at_least : ℤ → ℤ → Option ℤ
 lower_at_least a n = lower_at_most (neg_ℤ a) (neg_ℤ n)
 
@@ -46,10 +49,11 @@ others form v = filter (λ t. not (t.var == v)) form
 abbrev pub has_sides : PlainBounds → List FormTerm → Bool
 has_sides b form = list_all (λ t. is_some (lower_of b t.var) && is_some (upper_of b t.var)) form
 
--- what `form <= c` leaves for the term on v at most, and what `form >= c` leaves for it at least
+-- what `form <= c` leaves for the term on v at most
 abbrev pub most_left : PlainBounds → PlainKeyAtom → ℕ → Option ℤ
 most_left b a v = option_map (λ r. a.constant -ℤ r) (least (others a.form v) b)
 
+-- what `form >= c` leaves for that term at least
 abbrev pub least_left : PlainBounds → PlainKeyAtom → ℕ → Option ℤ
 least_left b a v = option_map (λ r. a.constant -ℤ r) (greatest (others a.form v) b)
 
@@ -58,20 +62,23 @@ abbrev pub first_some : Option ℤ → Option ℤ → Option ℤ
 first_some None o = o
 first_some (Some x) o = Some x
 
--- the bounds that `form <= c` gives, and those that `form >= c` gives
+-- the upper bound of v that `form <= c` gives
 abbrev pub upper_by_le : PlainBounds → PlainKeyAtom → ℕ → Option ℤ
 upper_by_le b a v = option_and_then (upper_at_most (coefficient_of a.form v)) (most_left b a v)
 
+-- the lower bound of v that `form <= c` gives
 abbrev pub lower_by_le : PlainBounds → PlainKeyAtom → ℕ → Option ℤ
 lower_by_le b a v = option_and_then (lower_at_most (coefficient_of a.form v)) (most_left b a v)
 
+-- the upper bound of v that `form >= c` gives
 abbrev pub upper_by_ge : PlainBounds → PlainKeyAtom → ℕ → Option ℤ
 upper_by_ge b a v = option_and_then (upper_at_least (coefficient_of a.form v)) (least_left b a v)
 
+-- the lower bound of v that `form >= c` gives
 abbrev pub lower_by_ge : PlainBounds → PlainKeyAtom → ℕ → Option ℤ
 lower_by_ge b a v = option_and_then (lower_at_least (coefficient_of a.form v)) (least_left b a v)
 
--- the upper and the lower bound that an atom gives by its op; `form = c` gives those of both comparisons
+-- the upper bound that an atom gives by its op; `form = c` gives that of either comparison
 unfoldable pub upper_cut : PlainBounds → PlainKeyAtom → ℕ → Option ℤ
 upper_cut b a v = elim a.op [
   | Le ↦ upper_by_le b a v
@@ -80,6 +87,7 @@ upper_cut b a v = elim a.op [
   | Ne ↦ None
 ]
 
+-- the lower bound that an atom gives, likewise
 unfoldable pub lower_cut : PlainBounds → PlainKeyAtom → ℕ → Option ℤ
 lower_cut b a v = elim a.op [
   | Le ↦ lower_by_le b a v
@@ -88,12 +96,13 @@ lower_cut b a v = elim a.op [
   | Ne ↦ None
 ]
 
--- a lower bound counts above the lower side and not above the upper side; an upper bound below the upper side and not below the lower side
+-- a lower bound counts where it moves the lower side inwards without passing the upper one
 abbrev pub counts_as_lower : Option ℤ → Option ℤ → ℤ → Bool
 counts_as_lower None hi n = false
 counts_as_lower (Some lo) None n = false
 counts_as_lower (Some lo) (Some hi) n = int_lt lo n && int_le n hi
 
+-- an upper bound counts where it moves the upper side inwards without passing the lower one
 abbrev pub counts_as_upper : Option ℤ → Option ℤ → ℤ → Bool
 counts_as_upper None hi n = false
 counts_as_upper (Some lo) None n = false
@@ -104,9 +113,11 @@ abbrev pub kept_if : (ℤ → Bool) → Option ℤ → Option ℤ
 kept_if test None = None
 kept_if test (Some n) = if test n then Some n else None
 
+-- the lower bound that the atom gives, where it counts
 abbrev pub lower_that_counts : PlainBounds → PlainKeyAtom → ℕ → Option ℤ
 lower_that_counts b a v = kept_if (counts_as_lower (lower_of b v) (upper_of b v)) (lower_cut b a v)
 
+-- the upper bound that the atom gives, where it counts
 abbrev pub upper_that_counts : PlainBounds → PlainKeyAtom → ℕ → Option ℤ
 upper_that_counts b a v = kept_if (counts_as_upper (lower_of b v) (upper_of b v)) (upper_cut b a v)
 

@@ -34,10 +34,11 @@ abbrev pub named : List PlainKeyAtom → List Side → On → Option PlainKeyAto
 named key sides (OnAtom i) = slice_get key i
 named key sides (OnSide k) = option_and_then (side_atom key) (slice_get sides k)
 
--- a factor that any term may have, and one that a term on `<=` or `>=` may have
+-- a factor that a term on `=` may have
 abbrev pub is_factor : ℤ → Bool
 is_factor f = nat_le (unsigned_abs f) (2 ^ 31) && not (int_eq f (pos 0))
 
+-- a factor that a term on `<=` or `>=` may have
 abbrev pub is_positive_factor : ℤ → Bool
 is_positive_factor f = is_factor f && int_lt (pos 0) f
 
@@ -68,11 +69,12 @@ multiples_of key sides [] = Some []
 multiples_of key sides (term ∷ terms) =
     option_and_then (λ m. option_map (λ ms. m ∷ ms) (multiples_of key sides terms)) (multiple_of key sides term)
 
--- the coefficient of v in the sum of the multiples, and what the sum subtracts
+-- the coefficient of v in the sum of the multiples
 abbrev pub summed_coefficient : List Multiple → ℕ → ℤ
 summed_coefficient [] v = pos 0
 summed_coefficient (m ∷ ms) v = (m.weight *ℤ coefficient_of m.form v) +ℤ summed_coefficient ms v
 
+-- what the sum subtracts
 abbrev pub summed_constant : List Multiple → ℤ
 summed_constant [] = pos 0
 summed_constant (m ∷ ms) = (m.weight *ℤ m.constant) +ℤ summed_constant ms
@@ -102,6 +104,7 @@ fails_fixed a (Some n) (Some m) = int_eq n m && not (passes a.op a.constant n)
 unfoldable pub fixed_closes : List PlainKeyAtom → PlainBounds → ℕ → Bool
 fixed_closes key b i = option_map_or (λ a. fails_fixed a (least a.form b) (greatest a.form b)) (slice_get key i) false
 
+-- whether the leaf closes the box
 abbrev pub closes : List PlainKeyAtom → PlainBox → PlainLeaf → Bool
 closes key box (combo terms) = combo_closes key box terms
 closes key box (fixed i) = fixed_closes key box.bounds i
@@ -140,9 +143,10 @@ is_sum_of_two (combo (t ∷ u ∷ v ∷ ts)) = false
 is_sum_of_two (fixed i) = false
 is_sum_of_two empty = false
 
--- some leaf of that kind closes the box; a side counts like an atom
+-- some leaf of at most one atom closes the box; a side counts like an atom
 abbrev pub ClosedByOneAtom : List PlainKeyAtom → PlainBox → Type 0
 ClosedByOneAtom key box = (leaf : PlainLeaf) × IsTrue (is_by_one leaf) × Closes key box leaf
 
+-- some sum of two atoms or sides closes the box
 abbrev pub ClosedBySumOfTwo : List PlainKeyAtom → PlainBox → Type 0
 ClosedBySumOfTwo key box = (leaf : PlainLeaf) × IsTrue (is_sum_of_two leaf) × Closes key box leaf

@@ -26,7 +26,7 @@ pub record Treated : Type 0 where
 abbrev pub closed_by : Bool → List LeafTerm → Option Treated
 closed_by closed terms = if closed then Some (record { boxes = []; terms = terms }) else None
 
--- what a node leaves of a box, None where it isn't lawful or is a leaf that doesn't close the box
+-- what a node leaves of a box, None where it may not stand there: it is unlawful, or a leaf that this box is not closed by
 unfoldable pub treated : List PlainKeyAtom → PlainBox → Node → List LeafTerm → Option Treated
 treated key box (Split v cut) terms =
     if is_split v cut then Some (record { boxes = left_half box v cut ∷ right_half box v cut ∷ []; terms = terms }) else None
@@ -58,19 +58,19 @@ reading key i (node ∷ nodes) terms (box ∷ boxes) =
 abbrev pub tree_reading : List PlainKeyAtom → List Node → List LeafTerm → Ending
 tree_reading key nodes terms = reading key 0 nodes terms (root_box key ∷ [])
 
--- every node is lawful, every leaf closes its box, and nodes and terms end exactly as no box is undecided
+-- no node fails on the way, and the last of them closes the last box with no term to spare
 abbrev pub Refutes : List PlainKeyAtom → List Node → List LeafTerm → Type 0
 Refutes key nodes terms = tree_reading key nodes terms ≡ refuted
 
--- node i is the first that finds an undecided box and isn't lawful, or is a leaf that doesn't close it
+-- node i, counted from 0, is the first that may not stand where the reading meets it
 abbrev pub FailsAt : List PlainKeyAtom → List Node → List LeafTerm → ℕ → Type 0
 FailsAt key nodes terms i = tree_reading key nodes terms ≡ fails_at i
 
--- no node fails, and the nodes end while a box is undecided
+-- the nodes are used up without a failure, and some box is still undecided
 abbrev pub EndsEarly : List PlainKeyAtom → List Node → List LeafTerm → Type 0
 EndsEarly key nodes terms = tree_reading key nodes terms ≡ ends_early
 
--- a node or a term is left over after every box is closed
+-- all boxes are closed, and nodes or terms are still to come
 abbrev pub GoesOn : List PlainKeyAtom → List Node → List LeafTerm → Type 0
 GoesOn key nodes terms = tree_reading key nodes terms ≡ goes_on
 

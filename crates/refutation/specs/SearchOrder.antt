@@ -13,10 +13,11 @@ use Rattle.refutation.specs.Bounds.{PlainBounds, lower_of, upper_of}
 use Rattle.refutation.specs.Box.{PlainBox, is_ne}
 use Rattle.refutation.specs.Cut.{PlainCut, cut, floor_div}
 
--- the sides of a variable; the search asks only where both are there
+-- the lower side of a variable; the search asks only where it is there
 abbrev pub lower_or_zero : PlainBounds → ℕ → ℤ
 lower_or_zero b v = unwrap_or (lower_of b v) (pos 0)
 
+-- the upper side, likewise
 abbrev pub upper_or_zero : PlainBounds → ℕ → ℤ
 upper_or_zero b v = unwrap_or (upper_of b v) (pos 0)
 
@@ -54,9 +55,11 @@ abbrev pub first_node : (FormTerm → Option Node) → List FormTerm → Option 
 first_node of [] = None
 first_node of (t ∷ ts) = option_map_or Some (of t) (first_node of ts)
 
+-- the split of the first variable whose lower side the atom raises
 abbrev pub first_raising : PlainBounds → PlainKeyAtom → Option Node
 first_raising b a = first_node (λ t. raising_split t.var (cut b a t.var)) a.form
 
+-- the split of the first variable whose upper side the atom lowers
 abbrev pub first_lowering : PlainBounds → PlainKeyAtom → Option Node
 first_lowering b a = first_node (λ t. lowering_split t.var (cut b a t.var)) a.form
 
@@ -69,6 +72,7 @@ abbrev pub widest_from : PlainBounds → ℕ → List FormTerm → ℕ
 widest_from b v [] = v
 widest_from b v (t ∷ ts) = widest_from b (if int_lt (spread b v) (spread b t.var) then t.var else v) ts
 
+-- the widest variable of the terms, the first among equals
 abbrev pub widest : PlainBounds → List FormTerm → ℕ
 widest b [] = 0
 widest b (t ∷ ts) = widest_from b t.var ts

@@ -44,6 +44,7 @@ IsFair key box (Fixed i) = ⊥
 IsFair key box Empty = ⊥
 IsFair key box Left = ⊥
 
+-- an inner node where the search may put one: fair, at a box that has to be split, and the one that is in order
 pub record IsSearchSplit (rule : Rule) (key : List PlainKeyAtom) (box : PlainBox) (node : Node) : Type 0 where
   pub fair : IsFair key box node
   pub undecided : IsUndecided rule key box
@@ -74,6 +75,7 @@ Searches rule key (node ∷ nodes) terms [] = ⊥
 Searches rule key (node ∷ nodes) terms (box ∷ boxes) =
     KeepsRule rule key box node × IsSomeAnd (decided key box node terms) (λ (r : Treated). Searches rule key nodes r.terms (r.boxes ++ boxes))
 
+-- the nodes and terms are those of a search that begins with the root box of the key
 abbrev pub IsSearchTree : Rule → List PlainKeyAtom → List Node → List LeafTerm → Type 0
 IsSearchTree rule key nodes terms = Searches rule key nodes terms (root_box key ∷ [])
 
@@ -90,6 +92,7 @@ undecided_boxes key nodes terms = boxes_left key nodes terms (root_box key ∷ [
 
 -- ---- open trees
 
+-- the node splits its box
 abbrev pub is_inner : Node → Bool
 is_inner (Split v cut) = true
 is_inner (NeSplit i) = true
@@ -98,6 +101,7 @@ is_inner (Fixed i) = false
 is_inner Empty = false
 is_inner Left = false
 
+-- the node leaves its box undecided
 abbrev pub is_left : Node → Bool
 is_left (Split v cut) = false
 is_left (NeSplit i) = false

@@ -11,6 +11,7 @@ pub record PlainSum : Type 0 where
   pub constant : ℤ
   pub count : ℕ
 
+-- the coefficient of a variable
 abbrev pub coef_at : PlainSum → ℕ → ℤ
 coef_at s v = slice_index_or s.coefs v (pos 0)
 

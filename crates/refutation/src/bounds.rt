@@ -1,19 +1,17 @@
-//! Bounds: a lower and an upper side for each of 64 variables.
+//! Bounds: how far down and how far up each of 64 variables may go.
 
-ghost use Rattle.std.specs.Prelude.{◌≡◌, ◌==◌, if◌then◌else◌, false, MatchOption, None, replicate, slice_set, ◌+◌, ◌^◌, ◌<◌, ◌≤◌, ℕ, ℤ, pos, IfSome, unsigned_abs};
+ghost use Rattle.std.specs.Prelude.{◌≡◌, ◌==◌, if◌then◌else◌, None, replicate, slice_set, ◌+◌, ◌^◌, ◌<◌, ◌≤◌, ℕ, unsigned_abs};
 ghost use Rattle.lin_model.specs.KeyAtom.{AscendsBelow64};
 ghost use Rattle.lin_model.specs.Key.{IsKey};
 ghost use Rattle.refutation.specs.Boxed.{HasShortSides};
-ghost use Rattle.refutation.specs.Bounds.{AreBounds, IsSide, lower_of, upper_of, lower_from, upper_from, is_variable, tighter_lower, tighter_upper, with_lower, with_upper, lower_side, upper_side, lower_by, upper_by, key_bounds, is_empty, crosses, least, greatest};
+ghost use Rattle.refutation.specs.Bounds.{AreBounds, IsSide, lower_of, upper_of, lower_from, upper_from, tighter_lower, tighter_upper, with_lower, with_upper, key_bounds, is_empty, least, greatest};
 
+use crate::one_side::{crosses, lower_by, tighter_lower, tighter_upper, upper_by, variable_alone};
 use crate::value::least_within;
-use lin_model::{Form, Key, KeyAtom, Op};
+use lin_model::{Form, Key, KeyAtom};
 use std::marker::Model;
 
-/// The greatest size of a side that an atom gives.
-const LIMIT: i64 = 1 << 32;
-
-/// A lower and an upper side for each of 64 variables, None where that side is missing. Each side is at most 2^32 + 1 in size.
+/// The sides of the variables 0 to 63: the least value that a variable may take, and the greatest. Either may be missing, which is None; one that is there is no larger than 2^32 + 1 in size.
 #[derive(Debug, Drop)]
 pub struct Bounds {
     lo: [Option<i64>; 64],
@@ -39,8 +37,9 @@ impl Bounds {
     {
         let mut bounds = Bounds::unbounded();
         for atom in key.atoms() {
-            bounds.keep(atom);
+            bounds.tighten(atom);
         }
+        // A look at a field opens the bounds, so that the limits which the type keeps are known of them.
         let _ = &bounds.lo;
         bounds
     }
@@ -56,21 +55,21 @@ impl Bounds {
         }
     }
 
-    /// Tightens the sides that this atom gives.
-    fn keep(&mut self, atom: &KeyAtom)
+    /// Tightens the bounds by the sides that this atom gives.
+    fn tighten(&mut self, atom: &KeyAtom)
         ensures lower { (v : ℕ) → v < 64 → lower_of self.new v
             ≡ tighter_lower (lower_of self.old v) (lower_from atom.now v) }
         ensures upper { (v : ℕ) → v < 64 → upper_of self.new v
             ≡ tighter_upper (upper_of self.old v) (upper_from atom.now v) }
     {
         if let Some(var) = variable_alone(atom.form()) {
-            self.keep_lower(var, lower_by(atom.op(), atom.constant()));
-            self.keep_upper(var, upper_by(atom.op(), atom.constant()));
+            self.tighten_lower(var, lower_by(atom.op(), atom.constant()));
+            self.tighten_upper(var, upper_by(atom.op(), atom.constant()));
         }
     }
 
-    /// Raises the lower side of a variable to this side, if there is one.
-    fn keep_lower(&mut self, var: u8, side: Option<i64>)
+    /// Tightens the lower side of a variable by this one, if there is one.
+    fn tighten_lower(&mut self, var: u8, side: Option<i64>)
         requires var { var < 64 }
         requires side { IsSide side }
         ensures lower { (v : ℕ) → v < 64 → lower_of self.new v
@@ -82,8 +81,8 @@ impl Bounds {
         }
     }
 
-    /// Lowers the upper side of a variable to this side, if there is one.
-    fn keep_upper(&mut self, var: u8, side: Option<i64>)
+    /// Tightens the upper side of a variable by this one, if there is one.
+    fn tighten_upper(&mut self, var: u8, side: Option<i64>)
         requires var { var < 64 }
         requires side { IsSide side }
         ensures upper { (v : ℕ) → v < 64 → upper_of self.new v
@@ -102,7 +101,7 @@ impl Bounds {
         any_crosses(&self.lo, &self.hi)
     }
 
-    /// The least value of a form, None exactly where a side that is needed is missing.
+    /// The least value that a form takes within the bounds, or None exactly where that hangs on a side that isn't there.
     pub fn least(&self, form: &Form) -> Option<i128>
         requires { AscendsBelow64 form.now }
         ensures { result ≡ least form.now self.now }
@@ -110,7 +109,7 @@ impl Bounds {
         least_within(form.terms(), &self.lo, &self.hi)
     }
 
-    /// The greatest value of a form, None exactly where a side that is needed is missing.
+    /// The greatest value that a form takes within the bounds, or None exactly where that hangs on a side that isn't there.
     pub fn greatest(&self, form: &Form) -> Option<i128>
         requires { AscendsBelow64 form.now }
         ensures { result ≡ greatest form.now self.now }
@@ -118,7 +117,7 @@ impl Bounds {
         least_within(form.terms(), &self.hi, &self.lo)
     }
 
-    /// The lower side of a variable.
+    /// The lower side of a variable, None where it is missing.
     pub fn lower(&self, var: u8) -> Option<i64>
         requires { var < 64 }
         ensures value { result ≡ lower_of self.now var }
@@ -127,7 +126,7 @@ impl Bounds {
         self.lo[usize::from(var)]
     }
 
-    /// The upper side of a variable.
+    /// The upper side of a variable, None where it is missing.
     pub fn upper(&self, var: u8) -> Option<i64>
         requires { var < 64 }
         ensures value { result ≡ upper_of self.now var }
@@ -136,7 +135,7 @@ impl Bounds {
         self.hi[usize::from(var)]
     }
 
-    /// Puts this side in the place of a variable's lower side.
+    /// Puts this side, or none, in the place of a variable's lower side.
     pub fn set_lower(&mut self, var: u8, side: Option<i64>)
         requires var { var < 64 }
         requires side { IsSide side }
@@ -145,7 +144,7 @@ impl Bounds {
         self.lo[usize::from(var)] = side;
     }
 
-    /// Puts this side in the place of a variable's upper side.
+    /// Puts this side, or none, in the place of a variable's upper side.
     pub fn set_upper(&mut self, var: u8, side: Option<i64>)
         requires var { var < 64 }
         requires side { IsSide side }
@@ -184,40 +183,6 @@ fn missing_sides() -> [Option<i64>; 64]
     [None; 64]
 }
 
-/// The variable that the form is, where it is one variable alone.
-fn variable_alone(form: &Form) -> Option<u8>
-    requires { AscendsBelow64 form.now }
-    ensures { MatchOption result ((v : ℕ) → is_variable form.now v ≡ false)
-        (λ w. (w < 64) × ((v : ℕ) → is_variable form.now v ≡ (w == v))) }
-{
-    match form.terms() {
-        [term] if term.coef == 1 => Some(term.var),
-        _ => None,
-    }
-}
-
-/// The lower side that a comparison of one variable with `constant` gives.
-fn lower_by(op: Op, constant: i64) -> Option<i64>
-    ensures value { result ≡ lower_by op constant }
-    ensures size { IfSome result (λ n. unsigned_abs n ≤ 2 ^ 32) }
-{
-    match op {
-        Op::Ge | Op::Eq if constant >= -LIMIT => Some(constant.min(LIMIT)),
-        _ => None,
-    }
-}
-
-/// The upper side that a comparison of one variable with `constant` gives.
-fn upper_by(op: Op, constant: i64) -> Option<i64>
-    ensures value { result ≡ upper_by op constant }
-    ensures size { IfSome result (λ n. unsigned_abs n ≤ 2 ^ 32) }
-{
-    match op {
-        Op::Le | Op::Eq if constant <= LIMIT => Some(constant.max(-LIMIT)),
-        _ => None,
-    }
-}
-
 /// Whether the lower side of some variable is above its upper side.
 fn any_crosses(lo: &[Option<i64>; 64], hi: &[Option<i64>; 64]) -> bool
     ensures { result ≡ is_empty (record { lower = lo.now; upper = hi.now }) }
@@ -228,33 +193,4 @@ fn any_crosses(lo: &[Option<i64>; 64], hi: &[Option<i64>; 64]) -> bool
         }
     }
     false
-}
-
-fn crosses(lower: Option<i64>, upper: Option<i64>) -> bool
-    ensures { result ≡ crosses lower upper }
-{
-    match (lower, upper) {
-        (Some(lower), Some(upper)) => lower > upper,
-        _ => false,
-    }
-}
-
-/// The greater of a lower side and another number.
-fn tighter_lower(side: Option<i64>, to: i64) -> i64
-    ensures { Some result ≡ tighter_lower side (Some to) }
-{
-    match side {
-        None => to,
-        Some(side) => side.max(to),
-    }
-}
-
-/// The lesser of an upper side and another number.
-fn tighter_upper(side: Option<i64>, to: i64) -> i64
-    ensures { Some result ≡ tighter_upper side (Some to) }
-{
-    match side {
-        None => to,
-        Some(side) => side.min(to),
-    }
 }

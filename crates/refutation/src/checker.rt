@@ -15,9 +15,9 @@ use lin_model::{Key, Op};
 use outside::NoMemory;
 use std::alloc::Global;
 
-/// Checks that a tree refutes a key: its nodes, in preorder, are read over the list of undecided boxes, at first the key's bounds alone, and a combination takes the next of the terms. Whoever made the tree is not trusted.
+/// Checks that a tree refutes a key. The nodes come in preorder and are read over the list of undecided boxes, which begins as the key's bounds alone; each combination takes the terms that come next. Whoever made the tree is not trusted.
 ///
-/// Ok comes only where every node is lawful, every leaf closes its box, and nodes and terms end exactly as no box is undecided; then no integer point satisfies the key. `NodeFails`, `TreeEnds` and `TreeGoesOn` come exactly as their texts say, unless memory runs out first.
+/// Ok comes only where each node may stand where it does, and the last of them closes the last box with no term to spare; then no integer point satisfies the key. `NodeFails`, `TreeEnds` and `TreeGoesOn` come exactly as their texts say, unless memory runs out first.
 pub fn refutes(
     alloc: Global,
     key: &Key,
@@ -51,7 +51,7 @@ pub fn refutes(
     Ok(())
 }
 
-/// Treats the first undecided box by a node: answers how many terms it took, or None where it isn't lawful or is a leaf that doesn't close the box.
+/// Lets a node treat the first undecided box, and answers how many terms it took. None says that the node may not stand there: it is unlawful, or a leaf that this box is not closed by.
 fn treat(
     walk: &mut Walk,
     key: &Key,
@@ -78,7 +78,7 @@ fn treat(
     }
 }
 
-/// Splits the first box by a cut that a split may have.
+/// Splits the first box at this cut, or answers None where no split may have it.
 fn split(walk: &mut Walk, var: u8, cut: i64) -> Result<Option<usize>, NoMemory>
     ensures { IfOk result (λ taken. (box : PlainBox) (rest : List PlainBox) → walk.old ≡ box ∷ rest
         → Puts (is_split var cut) (left_half box var cut ∷ right_half box var cut ∷ []) 0 taken rest walk.new) }
@@ -97,7 +97,7 @@ fn is_split(var: u8, cut: i64) -> bool
     var < 64 && cut.unsigned_abs() <= 1 << 32
 }
 
-/// Splits the first box by an atom `form != c` of the key.
+/// Splits the first box by the atom of this number, or answers None where the key has no such atom `form != c`.
 fn split_ne(walk: &mut Walk, key: &Key, atom: u16) -> Result<Option<usize>, NoMemory>
     ensures { IfOk result (λ taken. (box : PlainBox) (rest : List PlainBox) → walk.old ≡ box ∷ rest
         → Puts (names_ne key.now atom) (on_side box atom false ∷ on_side box atom true ∷ []) 0 taken rest walk.new) }
@@ -119,7 +119,7 @@ fn names_ne(key: &Key, atom: u16) -> bool
     }
 }
 
-/// Closes the first box by the first `count` terms.
+/// Closes the first box by the first `count` terms, or answers None where they are too few or don't close it.
 fn close_by_combo(
     walk: &mut Walk,
     key: &Key,
@@ -137,7 +137,7 @@ fn close_by_combo(
     close_if(walk, closed, count)
 }
 
-/// Takes the first box off where it is closed, by a leaf that takes `count` terms.
+/// Takes the first box off where it is closed, by a leaf that takes `count` terms; else answers None.
 fn close_if(walk: &mut Walk, closed: bool, count: usize) -> Result<Option<usize>, NoMemory>
     requires { 0 < length walk.old }
     ensures { IfOk result (λ taken. (box : PlainBox) (rest : List PlainBox) → walk.old ≡ box ∷ rest

@@ -9,13 +9,13 @@ use std::fmt;
 /// Why the check of a tree said no.
 #[derive(Clone, Copy, Debug, PartialEq, Eq)]
 pub enum TreeFault {
-    /// The first node, by its number from 0, that finds an undecided box and isn't lawful, or is a leaf that doesn't close it.
+    /// The number, from 0, of the first node that may not stand where it does: a box is undecided there, and the node is unlawful or a leaf that leaves this box open.
     NodeFails(u64),
-    /// The nodes end while a box is undecided.
+    /// The nodes are used up, and some box is still undecided.
     TreeEnds,
-    /// A node or a term is left over after every box is closed.
+    /// All boxes are closed, and nodes or terms are still to come.
     TreeGoesOn,
-    /// Memory ran out, and nothing is said of the tree.
+    /// Memory ran out, which says nothing of the tree.
     NoMemory,
 }
 

@@ -13,6 +13,7 @@ pub enum On {
     Side(u16),
 }
 
+// A vector of a fixed capacity is filled with some default beforehand.
 impl Default for On {
     ghost use Rattle.refutation.specs.declared.leaf.On.TheVariants.{Atom};
 
@@ -23,10 +24,12 @@ impl Default for On {
     }
 }
 
-/// One term of a combination: an atom or a side, times a factor of at most 2^31 in size, positive unless it is on an atom with `=`.
+/// One term of a combination: a multiple of an atom or of a side.
 #[derive(Clone, Copy, Debug, Default, PartialEq, Eq)]
 pub struct LeafTerm {
+    /// What is multiplied.
     pub on: On,
+    /// By how much. A lawful factor is no larger than 2^31 in size and above 0; on an atom with `=` it may be below 0 too.
     pub factor: i64,
 }
 

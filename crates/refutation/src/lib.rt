@@ -8,6 +8,7 @@ mod fault;
 mod laws;
 mod leaf;
 mod node;
+mod one_side;
 mod side;
 mod sum;
 #[cfg(test)]

@@ -69,6 +69,7 @@ impl Sum {
     }
 }
 
+/// A 0 for each variable.
 fn zeros() -> [i128; 64]
     ensures { result ≡ replicate 64 (pos 0) }
 {
@@ -90,6 +91,7 @@ fn add_scaled(coefs: &mut [i128], form: &[FormTerm], weight: i64)
     }
 }
 
+/// The sum of two numbers that leave room for it.
 fn sum_of(a: i128, b: i128) -> i128
     requires a { unsigned_abs a ≤ 2 ^ 90 }
     requires b { unsigned_abs b ≤ 2 ^ 90 }
@@ -108,6 +110,7 @@ fn weighted(weight: i64, number: i64) -> i128
     wide_product(weight, number)
 }
 
+/// The product in 128 bits.
 fn wide_product(a: i64, b: i64) -> i128
     requires a { unsigned_abs a ≤ 2 ^ 31 }
     requires b { unsigned_abs b ≤ 2 ^ 50 }

@@ -6,7 +6,7 @@ use lin_model::{Form, FormTerm, Key, KeyAtom, Op};
 use std::alloc::Global;
 use std::test::Fail;
 
-const ORDER: [FormTerm; 2] = [FormTerm { var: 0, coef: 1 }, FormTerm { var: 1, coef: -1 }];
+const DIFFERENCE: [FormTerm; 2] = [FormTerm { var: 0, coef: 1 }, FormTerm { var: 1, coef: -1 }];
 
 /// The atom of these parts, which are canonical.
 fn atom(alloc: Global, terms: &[FormTerm], op: Op, constant: i64) -> Result<KeyAtom, Fail> {
@@ -14,27 +14,29 @@ fn atom(alloc: Global, terms: &[FormTerm], op: Op, constant: i64) -> Result<KeyA
     Ok(KeyAtom::new(form, op, constant).ok_or("not canonical")?)
 }
 
-/// `v0 - v1 <= low` and `v0 - v1 >= high`.
-fn crossed(alloc: Global, low: i64, high: i64) -> Result<Key, Fail> {
-    let mut atoms = Vec::new(alloc);
-    atoms.push(atom(alloc, &ORDER, Op::Le, low)?)?;
-    atoms.push(atom(alloc, &ORDER, Op::Ge, high)?)?;
+/// The key of these atoms, which are in order.
+fn key_of(atoms: Vec<KeyAtom>) -> Result<Key, Fail> {
     match Key::of(atoms) {
         Ok(key) => Ok(key),
         Err(_) => Err(Fail::from("out of order")),
     }
 }
 
+/// `v0 - v1 <= low` and `v0 - v1 >= high`.
+fn crossed(alloc: Global, low: i64, high: i64) -> Result<Key, Fail> {
+    let mut atoms = Vec::new(alloc);
+    atoms.push(atom(alloc, &DIFFERENCE, Op::Le, low)?)?;
+    atoms.push(atom(alloc, &DIFFERENCE, Op::Ge, high)?)?;
+    key_of(atoms)
+}
+
 /// `v0 - v1 <= 0`, `v0 - v1 >= 0` and `v0 - v1 != 0`.
 fn pinned(alloc: Global) -> Result<Key, Fail> {
     let mut atoms = Vec::new(alloc);
-    atoms.push(atom(alloc, &ORDER, Op::Le, 0)?)?;
-    atoms.push(atom(alloc, &ORDER, Op::Ge, 0)?)?;
-    atoms.push(atom(alloc, &ORDER, Op::Ne, 0)?)?;
-    match Key::of(atoms) {
-        Ok(key) => Ok(key),
-        Err(_) => Err(Fail::from("out of order")),
-    }
+    atoms.push(atom(alloc, &DIFFERENCE, Op::Le, 0)?)?;
+    atoms.push(atom(alloc, &DIFFERENCE, Op::Ge, 0)?)?;
+    atoms.push(atom(alloc, &DIFFERENCE, Op::Ne, 0)?)?;
+    key_of(atoms)
 }
 
 fn on_atom(number: u16, factor: i64) -> LeafTerm {

@@ -56,6 +56,7 @@ pub fn scaled_side(coef: i128, at_positive: Option<i64>, at_negative: Option<i64
     Some(product(coef, side?))
 }
 
+/// A coefficient times a side.
 fn product(coef: i128, side: i64) -> i128
     requires coef { unsigned_abs coef ≤ 2 ^ 80 }
     requires side { unsigned_abs side ≤ 2 ^ 32 + 1 }

@@ -1,5 +1,5 @@
-//! Tests of the program's parts together: worked sessions from bytes to bytes, texts that are refused, devices that
-//! fail, and calls with ample memory.
+//! Tests of the program's parts together: worked sessions from bytes to bytes, command lines, texts that are refused,
+//! devices that fail, and calls with ample memory.
 #![tactic(auto)]
 
 #[cfg(test)]
@@ -16,3 +16,5 @@ mod queries;
 mod sessions;
 #[cfg(test)]
 mod sources;
+#[cfg(test)]
+mod words;

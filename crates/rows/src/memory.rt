@@ -1,24 +1,23 @@
 //! Each call that may run out of memory, once with ample memory.
 ghost use Rattle.std.specs.Prelude.{◌≤◌, ◌^◌, unsigned_abs};
 
-use crate::fixtures::{ANSWERS, SESSION, source_of, words_of};
-use green_cli::{Command, Outcome, read_words, run_once};
+use crate::fixtures::{ANSWERS, SESSION, source_of};
+use green_cli::{Budget, Command, Outcome, run_once};
 use lin_model::{Atom, Cmp, Condition, Expr, Name, Term, Var, fits, is_name};
 use lin_text::{push_integer, push_number, push_str, read_query, write_query};
-use outside::{MemSink, NoDisk};
+use outside::{MemSink, NoDisk, NoMemory};
 use std::alloc::{AllocError, Global};
 use std::process::Abort;
 use std::test::Fail;
 
 #[test]
-fn words_are_read_and_done(rt: HostRuntime) -> Result<(), Fail> {
+fn a_command_is_done(rt: HostRuntime) -> Result<(), Fail> {
     let alloc = rt.alloc();
-    let words = words_of(alloc, &["solve"])?;
-    let command = read_words(alloc, words.as_slice()).map_err(|_| "refused")?;
-    let Command::Solve { budget } = command;
-    assert_eq!(rt; budget.splits(), 4_096);
     let mut sink = MemSink::new(alloc, Vec::new(alloc));
     let mut source = source_of(alloc, SESSION, &[])?;
+    let command = Command::Solve {
+        budget: Budget::new(4_096),
+    };
     let Outcome { status, .. } = run_once(
         alloc,
         &command,
@@ -33,20 +32,34 @@ fn words_are_read_and_done(rt: HostRuntime) -> Result<(), Fail> {
 
 #[test]
 fn texts_are_read_and_written(rt: HostRuntime) -> Result<(), Fail> {
-    let alloc = rt.alloc();
-    let text = b"var x 03 3\n0 <= x\n";
-    let (query, end) = read_query(alloc, text, 0, false).map_err(|_| "refused")?;
-    assert_eq!(rt; end, text.len());
+    let (text, end) = spelled_plainly(rt.alloc(), b"var x 03 3\n0 <= x\n")?;
     assert_eq!(rt;
-        write_query(alloc, &query)?.as_slice(),
-        b"var x 3 3\n0 <= x\n".as_slice()
+        (text.as_slice(), end),
+        (b"var x 3 3\n0 <= x\n".as_slice(), 18)
     );
-    let mut out = write_query(alloc, &example(&rt)?)?;
-    push_str(&mut out, "x ")?;
-    push_number(&mut out, u64::MAX)?;
-    push_integer(&mut out, i64::MIN)?;
-    assert_eq!(rt; str::from_utf8(&out)?, EXAMPLE);
+    let text = example_text(&rt)?;
+    assert_eq!(rt; str::from_utf8(&text)?, EXAMPLE);
     Ok(())
+}
+
+/// The plain spelling of the query that the text spells, and where the query ends in the text.
+fn spelled_plainly(alloc: Global, text: &[u8]) -> Result<(Vec<u8>, usize), Fail> {
+    let (query, end) = read_query(alloc, text, 0, false).map_err(|_| "refused")?;
+    Ok((write_query(alloc, &query)?, end))
+}
+
+fn example_text(rt: &(impl Abort + AllocGlobal)) -> Result<Vec<u8>, Fail> {
+    let query = example(rt)?;
+    let mut text = write_query(rt.alloc(), &query)?;
+    push_more(&mut text)?;
+    Ok(text)
+}
+
+/// Adds a word and two numbers.
+fn push_more(text: &mut Vec<u8>) -> Result<(), NoMemory> {
+    push_str(text, "x ")?;
+    push_number(text, u64::MAX)?;
+    push_integer(text, i64::MIN)
 }
 
 /// The example, and then a word and two numbers.
@@ -63,34 +76,58 @@ b + b = 198
 x 18446744073709551615-9223372036854775808";
 
 fn example(rt: &(impl Abort + AllocGlobal)) -> Result<Condition, AllocError> {
-    let alloc = rt.alloc();
-    let mut vars = Vec::new(alloc);
+    let vars = example_vars(rt)?;
+    let atoms = example_atoms(rt)?;
+    assert!(rt; fits(vars.as_slice(), atoms.as_slice()));
+    Ok(Condition::new(vars, atoms))
+}
+
+fn example_vars(rt: &(impl Abort + AllocGlobal)) -> Result<Vec<Var>, AllocError> {
+    let mut vars = Vec::new(rt.alloc());
     for name in ["a", "b", "c"] {
         vars.push(var_of(rt, name)?)?;
     }
-    let (a, b, c) = (Some(0), Some(1), Some(2));
-    let mut atoms = Vec::new(alloc);
-    for (left, cmp, right) in [
-        (
-            [(4, a), (4, b)].as_slice(),
-            Cmp::Le,
-            [(213, None)].as_slice(),
-        ),
-        (&[(1, b), (-1, c)], Cmp::Ge, &[(95, None)]),
-        (&[(1, c)], Cmp::Ne, &[(51, None)]),
-        (&[(1, a)], Cmp::Ne, &[(1, c)]),
-        (
-            &[(-1, a), (-3, b), (7, None)],
-            Cmp::Lt,
-            &[(-4, None), (0, c)],
-        ),
-        (&[(0, None), (-8, None)], Cmp::Gt, &[(-2, a)]),
-        (&[(1, b), (1, b)], Cmp::Eq, &[(198, None)]),
-    ] {
-        atoms.push(atom_of(rt, left, cmp, right)?)?;
-    }
-    assert!(rt; fits(vars.as_slice(), atoms.as_slice()));
-    Ok(Condition::new(vars, atoms))
+    Ok(vars)
+}
+
+fn example_atoms(rt: &(impl Abort + AllocGlobal)) -> Result<Vec<Atom>, AllocError> {
+    let mut atoms = Vec::new(rt.alloc());
+    push_one_sided(rt, &mut atoms)?;
+    push_two_sided(rt, &mut atoms)?;
+    Ok(atoms)
+}
+
+const A: Option<u32> = Some(0);
+
+const B: Option<u32> = Some(1);
+
+const C: Option<u32> = Some(2);
+
+/// Adds the atoms with variables on the left alone.
+fn push_one_sided(
+    rt: &(impl Abort + AllocGlobal),
+    atoms: &mut Vec<Atom>,
+) -> Result<(), AllocError> {
+    push_atom(rt, atoms, &[(4, A), (4, B)], Cmp::Le, &[(213, None)])?;
+    push_atom(rt, atoms, &[(1, B), (-1, C)], Cmp::Ge, &[(95, None)])?;
+    push_atom(rt, atoms, &[(1, C)], Cmp::Ne, &[(51, None)])
+}
+
+/// Adds atoms with variables on either side.
+fn push_two_sided(
+    rt: &(impl Abort + AllocGlobal),
+    atoms: &mut Vec<Atom>,
+) -> Result<(), AllocError> {
+    push_atom(rt, atoms, &[(1, A)], Cmp::Ne, &[(1, C)])?;
+    push_atom(
+        rt,
+        atoms,
+        &[(-1, A), (-3, B), (7, None)],
+        Cmp::Lt,
+        &[(-4, None), (0, C)],
+    )?;
+    push_atom(rt, atoms, &[(0, None), (-8, None)], Cmp::Gt, &[(-2, A)])?;
+    push_atom(rt, atoms, &[(1, B), (1, B)], Cmp::Eq, &[(198, None)])
 }
 
 /// A variable of this name with the bounds 0 and 99.
@@ -102,15 +139,17 @@ fn var_of(rt: &(impl Abort + AllocGlobal), name: &str) -> Result<Var, AllocError
 
 type Terms<'a> = &'a [(i64, Option<u32>)];
 
-fn atom_of(
+fn push_atom(
     rt: &(impl Abort + AllocGlobal),
+    atoms: &mut Vec<Atom>,
     left: Terms,
     cmp: Cmp,
     right: Terms,
-) -> Result<Atom, AllocError> {
+) -> Result<(), AllocError> {
     let left = side_of(rt, left)?;
     let right = side_of(rt, right)?;
-    Ok(Atom { left, cmp, right })
+    atoms.push(Atom { left, cmp, right })?;
+    Ok(())
 }
 
 fn side_of(rt: &(impl Abort + AllocGlobal), terms: Terms) -> Result<Expr, AllocError> {

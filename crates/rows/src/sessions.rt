@@ -1,11 +1,12 @@
 //! Worked sessions from bytes to bytes.
-use crate::fixtures::{ANSWERS, SESSION, expect_query, expect_text, run, source_of};
+use crate::fixtures::{ANSWERS, SESSION, expect_query, expect_text, push_numbered, run, source_of};
 use green_cli::Report;
 use lin_model::Condition;
 use lin_text::write_query;
 use outside::MemSink;
-use pipeline::{Plain, PlainPart, Told};
+use pipeline::{PlainPart, Told};
 use std::alloc::{AllocError, Global};
+use std::process::Abort;
 use std::test::Fail;
 
 #[test]
@@ -13,42 +14,40 @@ fn a_session_is_answered_and_reported(rt: HostRuntime) -> Result<(), Fail> {
     let alloc = rt.alloc();
     let mut sink = MemSink::new(alloc, Vec::new(alloc));
     let mut source = source_of(alloc, SESSION, &[])?;
-    let (status, report) = run(alloc, &["solve"], &mut source, &mut sink)?;
-    assert_eq!(rt; status, 0);
-    assert_eq!(rt; sink.bytes(), ANSWERS.as_bytes());
-    let (query, values) = only_model(&report).ok_or("not one model")?;
+    let (status, report) = run(alloc, "solve", &mut source, &mut sink)?;
+    assert_eq!(rt; (status, sink.bytes()), (0, ANSWERS.as_bytes()));
+    expect_reported(&rt, &report)
+}
+
+/// Expects the only query of `SESSION` and its model.
+fn expect_reported(rt: &(impl Abort + AllocGlobal), report: &Report) -> Result<(), Fail> {
+    let (query, values) = only_model(report).ok_or("not one model")?;
+    assert_eq!(rt; values, [3].as_slice());
     assert_eq!(rt;
-        write_query(alloc, query)?.as_slice(),
+        write_query(rt.alloc(), query)?.as_slice(),
         b"var x 0 10\n2*x <= 7\nx >= 3\n".as_slice()
     );
-    assert_eq!(rt; values, [3].as_slice());
     Ok(())
 }
 
 /// The only query of a report, with its model, where it has one part that was solved.
 fn only_model(report: &Report) -> Option<(&Condition, &[i64])> {
-    let [script] = report.session.executors() else {
-        return None;
-    };
-    let [query] = script.queries() else {
-        return None;
-    };
-    let [answers] = report.answers.as_slice() else {
-        return None;
-    };
-    let [
-        Plain {
-            verdict: Told::Sat(values),
-            parts,
-        },
-    ] = answers.as_slice()
-    else {
-        return None;
-    };
-    let [PlainPart::Solved] = parts.as_slice() else {
-        return None;
-    };
-    Some((query, values.as_slice()))
+    let script = only(report.session.executors())?;
+    let query = only(script.queries())?;
+    let answers = only(report.answers.as_slice())?;
+    let answer = only(answers.as_slice())?;
+    match (&answer.verdict, only(answer.parts.as_slice())?) {
+        (Told::Sat(values), PlainPart::Solved) => Some((query, values.as_slice())),
+        _ => None,
+    }
+}
+
+/// The item of a list of one.
+fn only<T>(items: &[T]) -> Option<&T> {
+    match items {
+        [item] => Some(item),
+        _ => None,
+    }
 }
 
 /// The widest bounds of `x` and `y`, of which each is to be below the other.
@@ -60,22 +59,22 @@ y - x <= -1
 
 #[test]
 fn queries_are_answered_within_their_budget(rt: HostRuntime) -> Result<(), Fail> {
-    for (budget, lines, status, answer) in [
-        ("1", WIDE, 3, "unknown slice 1 [spent]"),
+    for (line, lines, status, answer) in [
+        ("solve|--budget|1", WIDE, 3, "unknown slice 1 [spent]"),
         (
-            "4",
+            "solve|--budget|4",
             "var x 0 1\nvar y 0 1\nx - y <= -1\ny - x <= -1\n",
             0,
             "unsat slice 1 [new 0]",
         ),
         (
-            "8",
+            "solve|--budget|8",
             "var x 0 1\nvar y 0 1\nx = y\nx != 0\n",
             0,
             "sat x=1 y=1 [new 0]",
         ),
     ] {
-        expect_query(&rt, &["solve", "--budget", budget], lines, (status, answer))?;
+        expect_query(&rt, line, lines, (status, answer))?;
     }
     Ok(())
 }
@@ -126,7 +125,7 @@ end
             "green answers 1\nexecutor\nsat x=3 [new 0]\nexecutor\nexecutor\nsat x1=1 b=2 [new 1] [new 2]\nend\n",
         ),
     ] {
-        expect_text(&rt, &["solve"], text, (0, answers))?;
+        expect_text(&rt, "solve", text, (0, answers))?;
     }
     Ok(())
 }
@@ -140,29 +139,32 @@ fn an_unknown_answer_among_others_makes_the_status_3(rt: HostRuntime) -> Result<
     )?;
     let answers =
         "green answers 1\nexecutor\nsat a=1 [new 0]\nunknown slice 1 [spent] [new 1]\nexecutor\nsat b=2 [new 2]\nend\n";
-    expect_text(&rt, &["solve", "--budget=1"], text.as_str(), (3, answers))
+    expect_text(&rt, "solve|--budget=1", text.as_str(), (3, answers))
 }
 
 /// The sum of the least values is past 64 bits.
 #[test]
 fn sums_past_64_bits_are_reckoned(rt: HostRuntime) -> Result<(), Fail> {
     let lines = wide_query(rt.alloc())?;
-    expect_query(
-        &rt,
-        &["solve"],
-        lines.as_str(),
-        (0, "unsat slice 1 [new 0]"),
-    )
+    expect_query(&rt, "solve", lines.as_str(), (0, "unsat slice 1 [new 0]"))
 }
 
 /// 64 variables that are 2^31, and 2^31 times each but the last, whose factor is one less, in one sum that is to be at
 /// most 0.
 fn wide_query(alloc: Global) -> Result<String, AllocError> {
     let mut lines = String::new(alloc);
-    let mut sum = String::new(alloc);
-    for number in 0..63u8 {
-        lines.push_str(format!(in alloc; "var x{number} 2147483648 2147483648\n")?.as_str())?;
-        sum.push_str(format!(in alloc; "2147483648*x{number} + ")?.as_str())?;
+    for number in 0..64u8 {
+        push_numbered(
+            alloc,
+            &mut lines,
+            "var x",
+            number,
+            " 2147483648 2147483648\n",
+        )?;
     }
-    format!(in alloc; "{lines}var x63 2147483648 2147483648\n{sum}2147483647*x63 <= 0\n")
+    for number in 0..63u8 {
+        push_numbered(alloc, &mut lines, "2147483648*x", number, " + ")?;
+    }
+    lines.push_str("2147483647*x63 <= 0\n")?;
+    Ok(lines)
 }

@@ -30,14 +30,10 @@ impl Source for OneByOne<'_> {
     ghost faults = { λ _. 0 };
 
     fn read(&mut self, buf: &mut [u8]) -> Result<usize, Failed> {
-        let [place, ..] = buf else {
-            return Ok(0);
-        };
-        let [byte, rest @ ..] = self.0 else {
-            return Ok(0);
-        };
-        *place = *byte;
-        self.0 = rest;
-        Ok(1)
+        let n = self.0.len().min(buf.len()).min(1);
+        let (given, left) = self.0.split_at(n);
+        buf[..n].copy_from_slice(given);
+        self.0 = left;
+        Ok(n)
     }
 }

@@ -1,11 +1,11 @@
 -- The first fault of lines, one line behind the other.
 use Rattle.std.proofs.Common.{◌≡◌, ℕ, ◌<◌, ◌≤◌, suc, true, false, nat_lt, List, [], ◌∷◌, length, drop, refl, ap, subst, arith, inl, inr, ◌⊎◌, length-drop}
+use Rattle.std.proofs.lemmas.List.Sums.{prefix_len-le-length}
 use borrow.Author.Tests.{ltb-true, ltb-false}
 use Rattle.lin_text.specs.declared.fault.SessionKind.{SessionKind}
 use Rattle.lin_text.specs.declared.fault.SessionKind.TheVariants as kinds
 use Rattle.lin_text.specs.Lines.{line_from, line_below, line_end, is_in_line}
 use Rattle.lin_text.specs.Pieces.{PlainLine, AreTokens, AreLines}
-use Rattle.lin_text.proofs.LineLemmas.{prefix_len-le}
 use Rattle.lin_text.proofs.Positions.{first_line-bounds, tokens-within, lines_total}
 use Rattle.lin_text.proofs.UniqueTokens.{AreLines-once}
 use Rattle.session_text.specs.Faults.{Seen, seen_below, StandsInLine, StandsIn, IsFirst, rank}
@@ -53,7 +53,7 @@ first_here bytes seen at line lines are kind place stands in_line = record { sta
     within = omega (arith, stands.place, (tokens-within false bytes line.start line.tokens stands.front stands.after stands.token are.2 stands.in_line).1)
 
     whole : line_end bytes line.start ≤ length bytes
-    whole = omega (arith, are.1, prefix_len-le is_in_line (drop line.start bytes), length-drop line.start bytes)
+    whole = omega (arith, are.1, prefix_len-le-length is_in_line (drop line.start bytes), length-drop line.start bytes)
 
     at_end : (k : SessionKind) (p : ℕ) → k ≡ kinds.NoEnd → p ≡ length bytes → (place < p) ⊎ ((place ≡ p) × (rank kind ≤ rank k))
     at_end k p is end =

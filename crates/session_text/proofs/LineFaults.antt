@@ -7,7 +7,7 @@ use Rattle.lin_text.specs.declared.fault.SessionKind.{SessionKind}
 use Rattle.lin_text.specs.declared.fault.SessionKind.TheVariants as kinds
 use Rattle.lin_text.specs.Pieces.{Piece, var, word, name, number, plus, minus, times, compare, bad, line_end, PlainToken, PlainLine, pieces, AreLines}
 use Rattle.lin_text.proofs.Positions.{tokens-later}
-use Rattle.lin_text.proofs.QueryReads.{parted}
+use Rattle.lin_text.proofs.ListLemmas.{parted}
 use Rattle.session_text.specs.declared.class.Class.TheVariants.{Executor, Query, End, Other}
 use Rattle.session_text.specs.Words.{executor_word, query_word, end_word}
 use Rattle.session_text.specs.Classes.{class_of, refusal_kind}

@@ -1,6 +1,6 @@
 -- The lines of a query within a session: where they have no fault, and where the first one stands.
-use Rattle.std.proofs.Common.{◌≡◌, ℕ, ◌+◌, ◌≤◌, suc, Bool, true, false, cond, not, List, [], ◌∷◌, ◌++◌, length, take, drop, Option, Some, None, refl, sym, ap, subst, ◌∙◌, arith, inl, inr, ◌⊎◌, append_assoc}
-use Rattle.std.specs.Prelude.{MatchOption, option_and_then}
+use Rattle.std.proofs.Common.{◌≡◌, ℕ, ◌+◌, ◌≤◌, suc, Bool, true, false, cond, not, List, [], ◌∷◌, ◌++◌, length, take, drop, Some, None, refl, sym, ap, subst, ◌∙◌, arith, inl, inr, ◌⊎◌, append_assoc}
+use Rattle.std.specs.Prelude.{MatchOption}
 use Rattle.std.specs.List.{prefix_len}
 use Rattle.std.proofs.lemmas.List.{append-nil}
 use Rattle.std.proofs.lemmas.List.Sums.{sum_by-cons}
@@ -13,7 +13,7 @@ use Rattle.lin_text.specs.Pieces.{Piece, var, word, PlainToken, PlainLine, piece
 use Rattle.lin_text.specs.Faults.{Stands, StandsAt as LinesFault, rank as text_rank}
 use Rattle.lin_text.specs.Queries.{begins_word, is_of_query, query_lines, start_of, Spells}
 use Rattle.lin_text.proofs.LineLemmas.{line_from-end}
-use Rattle.lin_text.proofs.Places.{Place, start, var_name, low, low_number, high, high_number, var_end, item, size, after as behind, factor, done, next, run, run-BeginsLine, run-front}
+use Rattle.lin_text.proofs.Places.{word-begins_no_line}
 use Rattle.lin_text.proofs.UniqueTokens.{AreLines-once}
 use Rattle.lin_text.proofs.NoFault.{Spell-no_fault}
 use Rattle.session_text.specs.Words.{executor_word, query_word}
@@ -23,31 +23,8 @@ use Rattle.session_text.proofs.TokenLemmas.{line_from-again}
 use Rattle.session_text.proofs.FirstFaults.{IsFirst-map, Leads}
 
 -- a reserved word but `var` stands in no line of a query
-
-next-word : (s : Place) (w : List ℕ) → next s (word w) ≡ None
-next-word start w = refl
-next-word var_name w = refl
-next-word low w = refl
-next-word low_number w = refl
-next-word high w = refl
-next-word high_number w = refl
-next-word var_end w = refl
-next-word (item l n) w = refl
-next-word (size l n) w = refl
-next-word (behind true n true) w = refl
-next-word (behind true n false) w = refl
-next-word (behind false n true) w = refl
-next-word (behind false n false) w = refl
-next-word (factor l n) w = refl
-next-word done w = refl
-
 pub word_stands : (above : List PlainLine) (front after : List Piece) (w : List ℕ) → Stands above front (word w) after texts.Syntax
-word_stands above front after w = λ b.
-    let r = run-BeginsLine (front ++ word w ∷ []) b in
-    let f = run-front start r.0 front (word w ∷ []) r.1 in
-    let none : run f.0 (word w ∷ []) ≡ None = ap (λ (o : Option Place). option_and_then (λ t. run t []) o) (next-word f.0 w) in
-    let no_place : Some r.0 ≡ None = sym f.2 ∙ none in
-    cc
+word_stands above front after w = word-begins_no_line front w
 
 pub word_first : (above : List PlainLine) (front after : List Piece) (w : List ℕ) (k : TextKind) → Stands above front (word w) after k → text_rank k ≤ 4 → k ≡ texts.Syntax
 word_first above front after w texts.TooManyVars s le = absurd (let no_var : word w ≡ var = s.1 in cc)

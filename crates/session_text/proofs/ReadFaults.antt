@@ -1,10 +1,10 @@
 -- The first fault of a query's text is the first of the session's text from there on.
 use Rattle.std.proofs.Common.{◌≡◌, ℕ, ◌+◌, ◌<◌, ◌≤◌, false, List, [], ◌∷◌, ◌++◌, length, drop, length-drop, refl, sym, ap, subst, ◌∙◌, arith, inl, inr, ◌⊎◌, append_assoc}
+use Rattle.std.proofs.lemmas.List.Sums.{prefix_len-le-length}
 use Rattle.lin_text.specs.declared.fault.TextKind.{TextKind}
 use Rattle.lin_text.specs.declared.fault.TextKind.TheVariants as texts
 use Rattle.lin_text.specs.declared.fault.SessionKind.{SessionKind}
 use Rattle.lin_text.specs.Lines.{line_below, is_in_line}
-use Rattle.lin_text.proofs.LineLemmas.{prefix_len-le}
 use Rattle.lin_text.specs.Pieces.{Piece, word, bad, PlainToken, PlainLine, pieces, AreLines}
 use Rattle.lin_text.specs.Faults.{Stands, StandsAt as LinesFault, IsFirstFault, rank as text_rank}
 use Rattle.lin_text.specs.Queries.{begins_word, HasFault}
@@ -222,7 +222,7 @@ module _ (bytes : List ℕ) (at : ℕ) (k : TextKind) (place : ℕ) (h : HasFaul
   pub fault-within : place ≤ length bytes
   fault-within =
       let w = tokens-within false bytes f.line.start f.line.tokens f.front f.after f.token here.2 f.in_line in
-      omega (arith, w.1, f.place, here.1, prefix_len-le is_in_line (drop f.line.start bytes), length-drop f.line.start bytes)
+      omega (arith, w.1, f.place, here.1, prefix_len-le-length is_in_line (drop f.line.start bytes), length-drop f.line.start bytes)
 
   pub fault-from : (token_at bytes place).from ≡ place
   fault-from = ap (λ (t : PlainToken). t.from) token_there ∙ sym f.place

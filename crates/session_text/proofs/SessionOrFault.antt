@@ -7,10 +7,10 @@ use Rattle.std.proofs.lemmas.List.Sums.{sum_by-cons}
 use Rattle.lin_model.specs.Conditions.{PlainCondition}
 use Rattle.lin_text.specs.declared.fault.SessionKind.{SessionKind}
 use Rattle.lin_text.specs.declared.fault.SessionKind.TheVariants as kinds
+use Rattle.lin_text.specs.Laws.{SpelledOrFaulty as ConditionSpelledOrFaulty}
 use Rattle.lin_text.specs.Lines.{line_from, line_below}
 use Rattle.lin_text.specs.Pieces.{Piece, word, line_end}
 use Rattle.lin_text.proofs.Positions.{first_line-bounds}
-use Rattle.lin_text.proofs.SpelledOrFault.{spelled_or_fault}
 use Rattle.session_text.specs.Words.{green_word, one_digit, executor_word, query_word, end_word, token_at, second_at, third_at, text_of, IsHeader, IsWordLine, BeginsWith}
 use Rattle.session_text.specs.Sessions.{IsQuery, AreQueries, IsExecutor, AreExecutors, IsEnd, body_of, SpellsSession}
 use Rattle.session_text.specs.Faults.{Seen, header, executor, ended, HasFault}
@@ -63,95 +63,21 @@ is_header bytes at =
 abbrev Faulty : Seen → List ℕ → ℕ → Type 0
 Faulty seen bytes at = (kind : SessionKind) × (place : ℕ) × HasFaultFrom seen bytes at kind place
 
--- one query
-
+-- a query is read from here, or the first fault stands
 abbrev OneQuery : List ℕ → ℕ → ℕ → ℕ → Type 0
 OneQuery bytes e n at = ((q : PlainCondition) × (stop : ℕ) × IsQuery bytes at q stop × (n ≡ 100000 → ⊥)) ⊎ Faulty (asked e n) bytes at
 
-one_query_here : (bytes : List ℕ) (e n at : ℕ) → BeginsWith query_word bytes at → OneQuery bytes e n at
-one_query_here bytes e n at begins =
-    elim (is_number n 100000) [
-      | inl full ↦ inr (kinds.TooManyQueries, (token_at bytes (line_from bytes at)).from, too_many_queries bytes (asked e n) at (λ ps. refl) begins full)
-      | inr room ↦ elim (is_line_end (second_at bytes (line_from bytes at)).piece) [
-        | inr goes_on ↦ inr (_, _, second_query bytes e n at begins room goes_on)
-        | inl ends ↦ behind room (record { begins = begins; ends = ends; next = refl })
-      ]
-    ]
-  where
-    behind : (n ≡ 100000 → ⊥) → IsWordLine query_word bytes at (line_below bytes (line_from bytes at)) → OneQuery bytes e n at
-    behind room line =
-        let below : ℕ = line_below bytes (line_from bytes at) in
-        elim (spelled_or_fault false bytes below (omega arith)) [
-          | inl s ↦ inl (s.0, s.1, record { below = below; line = line; spelled = s.2 }, room)
-          | inr f ↦ inr (_, f.1, (Leads-query_line bytes e n at below room line).back _ f.1 (query_fault bytes below f.0 f.1 f.2 e (n + 1)))
-        ]
-
 -- queries, up to the first line that is none
-
 abbrev Queries : List ℕ → ℕ → ℕ → ℕ → Type 0
 Queries bytes e n at = ((qs : List PlainCondition) × (stop : ℕ) × AreQueries bytes at qs stop × (n + length qs ≤ 100000) × (BeginsWith query_word bytes stop → ⊥)) ⊎ Faulty (asked e n) bytes at
 
-queries_here : (fuel : ℕ) (bytes : List ℕ) (e n at : ℕ) → n ≤ 100000 → length bytes - at < fuel → Queries bytes e n at
-queries_here zero bytes e n at few less = absurd (omega (arith, less))
-queries_here (suc fuel) bytes e n at few less =
-    elim (is_this_word (token_at bytes (line_from bytes at)).piece query_word) [
-      | inr other ↦ inl ([], at, refl, omega (arith, few), other)
-      | inl begins ↦ elim (one_query_here bytes e n at begins) [
-        | inr fault ↦ inr fault
-        | inl (q, stop, is, room) ↦
-            let ahead = IsQuery-ahead bytes at q stop is in
-            elim (queries_here fuel bytes e (n + 1) stop (omega (arith, few, room)) (omega (arith, less, ahead.0, ahead.1))) [
-              | inl more ↦ inl (q ∷ more.0, more.1, (stop, is, more.2), omega (arith, more.3), more.4)
-              | inr fault ↦ inr (fault.0, fault.1, (Leads-asked bytes e n at stop q room is).back fault.0 fault.1 fault.2)
-            ]
-      ]
-    ]
-
--- one executor
-
+-- an executor with its queries
 abbrev OneExecutor : List ℕ → ℕ → ℕ → ℕ → Type 0
 OneExecutor bytes e n at = ((qs : List PlainCondition) × (stop : ℕ) × IsExecutor bytes at qs stop × (e ≡ 64 → ⊥) × (n + length qs ≤ 100000) × (BeginsWith query_word bytes stop → ⊥)) ⊎ Faulty (between e n) bytes at
 
-one_executor_here : (bytes : List ℕ) (e n at : ℕ) → n ≤ 100000 → BeginsWith executor_word bytes at → OneExecutor bytes e n at
-one_executor_here bytes e n at few begins =
-    elim (is_number e 64) [
-      | inl full ↦ inr (kinds.TooManyExecutors, (token_at bytes (line_from bytes at)).from, too_many_executors bytes (between e n) at (between-no_query e) begins full)
-      | inr room ↦ elim (is_line_end (second_at bytes (line_from bytes at)).piece) [
-        | inr goes_on ↦ inr (_, _, second_executor bytes e n at begins room goes_on)
-        | inl ends ↦ behind room (record { begins = begins; ends = ends; next = refl })
-      ]
-    ]
-  where
-    behind : (e ≡ 64 → ⊥) → IsWordLine executor_word bytes at (line_below bytes (line_from bytes at)) → OneExecutor bytes e n at
-    behind room line =
-        let below : ℕ = line_below bytes (line_from bytes at) in
-        elim (queries_here (suc (length bytes)) bytes (e + 1) n below few (omega arith)) [
-          | inl s ↦ inl (s.0, s.1, record { below = below; line = line; asked = s.2 }, room, s.3, s.4)
-          | inr f ↦ inr (f.0, f.1, (Leads-executor bytes (part_after e) e n at below (between-no_query e) (between-executor e) room line).back f.0 f.1 f.2)
-        ]
-
 -- executors, up to the first line that is none
-
 abbrev Executors : List ℕ → ℕ → ℕ → ℕ → Type 0
 Executors bytes e n at = ((es : List (List PlainCondition)) × (stop : ℕ) × AreExecutors bytes at es stop × (e + length es ≤ 64) × (n + sum_by length es ≤ 100000) × (BeginsWith executor_word bytes stop → ⊥) × (BeginsWith query_word bytes stop → e + length es ≡ 0)) ⊎ Faulty (between e n) bytes at
-
-executors_here : (fuel : ℕ) (bytes : List ℕ) (e n at : ℕ) → e ≤ 64 → n ≤ 100000 → (BeginsWith query_word bytes at → e ≡ 0) → length bytes - at < fuel → Executors bytes e n at
-executors_here zero bytes e n at few few_queries no_query less = absurd (omega (arith, less))
-executors_here (suc fuel) bytes e n at few few_queries no_query less =
-    elim (is_this_word (token_at bytes (line_from bytes at)).piece executor_word) [
-      | inr other ↦ inl ([], at, refl, omega (arith, few), omega (arith, few_queries), other, λ q. omega (arith, no_query q))
-      | inl begins ↦ elim (one_executor_here bytes e n at few_queries begins) [
-        | inr fault ↦ inr fault
-        | inl (qs, stop, is, room, asked_few, no_more) ↦
-            let ahead = IsExecutor-ahead bytes at qs stop is in
-            elim (executors_here fuel bytes (e + 1) (n + length qs) stop (omega (arith, few, room)) asked_few (λ q. absurd (no_more q)) (omega (arith, less, ahead.0, ahead.1))) [
-              | inl more ↦
-                  let sum : sum_by length (qs ∷ more.0) ≡ length qs + sum_by length more.0 = sum_by-cons length qs more.0 in
-                  inl (qs ∷ more.0, more.1, (stop, is, more.2), omega (arith, more.3), omega (arith, more.4, sum), more.5, λ q. absurd (let none = more.6 q in omega (arith, none)))
-              | inr fault ↦ inr (fault.0, fault.1, (Leads-one bytes e n at stop qs room asked_few is).back fault.0 fault.1 fault.2)
-            ]
-      ]
-    ]
 
 -- the end line, and what is left
 
@@ -202,20 +128,92 @@ AreExecutors-within bytes at (e ∷ es) stop le are =
 abbrev Outcome : List ℕ → Type 0
 Outcome bytes = ((s : List (List PlainCondition)) × SpellsSession bytes s) ⊎ ((kind : SessionKind) × (place : ℕ) × HasFault bytes kind place)
 
-behind_header : (bytes : List ℕ) → IsHeader bytes (line_from bytes 0) → Outcome bytes
-behind_header bytes header_is =
-    elim (executors_here (suc (length bytes)) bytes 0 0 (body_of bytes) (omega arith) (omega arith) (λ q. refl) (omega arith)) [
-      | inr fault ↦ inr (fault.0, fault.1, whole_fault bytes header_is fault.0 fault.1 fault.2)
-      | inl (es, stop, are, few, few_queries, no_executor, no_query) ↦
-          elim (end_here bytes (0 + length es) (0 + sum_by length es) stop (AreExecutors-within bytes (body_of bytes) es stop (omega arith) are) no_executor no_query) [
-            | inl is ↦ inl (es, record { header = header_is; stop = stop; are = are; ended = is; fits = record { few_executors = omega (arith, few); few_queries = omega (arith, few_queries) } })
-            | inr fault ↦ inr (fault.0, fault.1, whole_fault bytes header_is fault.0 fault.1 ((Leads-executors bytes 0 0 (body_of bytes) stop es few few_queries are).back fault.0 fault.1 fault.2))
+-- each text spells a condition from a place on or has a fault
+module _ (condition_or_fault : ConditionSpelledOrFaulty) where
+  one_query_here : (bytes : List ℕ) (e n at : ℕ) → BeginsWith query_word bytes at → OneQuery bytes e n at
+  one_query_here bytes e n at begins =
+      elim (is_number n 100000) [
+        | inl full ↦ inr (kinds.TooManyQueries, (token_at bytes (line_from bytes at)).from, too_many_queries bytes (asked e n) at (λ ps. refl) begins full)
+        | inr room ↦ elim (is_line_end (second_at bytes (line_from bytes at)).piece) [
+          | inr goes_on ↦ inr (_, _, second_query bytes e n at begins room goes_on)
+          | inl ends ↦ behind room (record { begins = begins; ends = ends; next = refl })
+        ]
+      ]
+    where
+      behind : (n ≡ 100000 → ⊥) → IsWordLine query_word bytes at (line_below bytes (line_from bytes at)) → OneQuery bytes e n at
+      behind room line =
+          let below : ℕ = line_below bytes (line_from bytes at) in
+          elim (condition_or_fault false bytes below (omega arith)) [
+            | inl s ↦ inl (s.0, s.1, record { below = below; line = line; spelled = s.2 }, room)
+            | inr f ↦ inr (_, f.1, (Leads-query_line bytes e n at below room line).back _ f.1 (query_fault bytes below f.0 f.1 f.2 e (n + 1)))
           ]
-    ]
 
-pub SpellsSession-or_fault : SpelledOrFaulty
-SpellsSession-or_fault bytes =
-    elim (is_header bytes (line_from bytes 0)) [
-      | inl is ↦ behind_header bytes is
-      | inr other ↦ inr (kinds.BadHeader, (token_at bytes (line_from bytes 0)).from, bad_header bytes other)
-    ]
+  queries_here : (fuel : ℕ) (bytes : List ℕ) (e n at : ℕ) → n ≤ 100000 → length bytes - at < fuel → Queries bytes e n at
+  queries_here zero bytes e n at few less = absurd (omega (arith, less))
+  queries_here (suc fuel) bytes e n at few less =
+      elim (is_this_word (token_at bytes (line_from bytes at)).piece query_word) [
+        | inr other ↦ inl ([], at, refl, omega (arith, few), other)
+        | inl begins ↦ elim (one_query_here bytes e n at begins) [
+          | inr fault ↦ inr fault
+          | inl (q, stop, is, room) ↦
+              let ahead = IsQuery-ahead bytes at q stop is in
+              elim (queries_here fuel bytes e (n + 1) stop (omega (arith, few, room)) (omega (arith, less, ahead.0, ahead.1))) [
+                | inl more ↦ inl (q ∷ more.0, more.1, (stop, is, more.2), omega (arith, more.3), more.4)
+                | inr fault ↦ inr (fault.0, fault.1, (Leads-asked bytes e n at stop q room is).back fault.0 fault.1 fault.2)
+              ]
+        ]
+      ]
+
+  one_executor_here : (bytes : List ℕ) (e n at : ℕ) → n ≤ 100000 → BeginsWith executor_word bytes at → OneExecutor bytes e n at
+  one_executor_here bytes e n at few begins =
+      elim (is_number e 64) [
+        | inl full ↦ inr (kinds.TooManyExecutors, (token_at bytes (line_from bytes at)).from, too_many_executors bytes (between e n) at (between-no_query e) begins full)
+        | inr room ↦ elim (is_line_end (second_at bytes (line_from bytes at)).piece) [
+          | inr goes_on ↦ inr (_, _, second_executor bytes e n at begins room goes_on)
+          | inl ends ↦ behind room (record { begins = begins; ends = ends; next = refl })
+        ]
+      ]
+    where
+      behind : (e ≡ 64 → ⊥) → IsWordLine executor_word bytes at (line_below bytes (line_from bytes at)) → OneExecutor bytes e n at
+      behind room line =
+          let below : ℕ = line_below bytes (line_from bytes at) in
+          elim (queries_here (suc (length bytes)) bytes (e + 1) n below few (omega arith)) [
+            | inl s ↦ inl (s.0, s.1, record { below = below; line = line; asked = s.2 }, room, s.3, s.4)
+            | inr f ↦ inr (f.0, f.1, (Leads-executor bytes (part_after e) e n at below (between-no_query e) (between-executor e) room line).back f.0 f.1 f.2)
+          ]
+
+  executors_here : (fuel : ℕ) (bytes : List ℕ) (e n at : ℕ) → e ≤ 64 → n ≤ 100000 → (BeginsWith query_word bytes at → e ≡ 0) → length bytes - at < fuel → Executors bytes e n at
+  executors_here zero bytes e n at few few_queries no_query less = absurd (omega (arith, less))
+  executors_here (suc fuel) bytes e n at few few_queries no_query less =
+      elim (is_this_word (token_at bytes (line_from bytes at)).piece executor_word) [
+        | inr other ↦ inl ([], at, refl, omega (arith, few), omega (arith, few_queries), other, λ q. omega (arith, no_query q))
+        | inl begins ↦ elim (one_executor_here bytes e n at few_queries begins) [
+          | inr fault ↦ inr fault
+          | inl (qs, stop, is, room, asked_few, no_more) ↦
+              let ahead = IsExecutor-ahead bytes at qs stop is in
+              elim (executors_here fuel bytes (e + 1) (n + length qs) stop (omega (arith, few, room)) asked_few (λ q. absurd (no_more q)) (omega (arith, less, ahead.0, ahead.1))) [
+                | inl more ↦
+                    let sum : sum_by length (qs ∷ more.0) ≡ length qs + sum_by length more.0 = sum_by-cons length qs more.0 in
+                    inl (qs ∷ more.0, more.1, (stop, is, more.2), omega (arith, more.3), omega (arith, more.4, sum), more.5, λ q. absurd (let none = more.6 q in omega (arith, none)))
+                | inr fault ↦ inr (fault.0, fault.1, (Leads-one bytes e n at stop qs room asked_few is).back fault.0 fault.1 fault.2)
+              ]
+        ]
+      ]
+
+  behind_header : (bytes : List ℕ) → IsHeader bytes (line_from bytes 0) → Outcome bytes
+  behind_header bytes header_is =
+      elim (executors_here (suc (length bytes)) bytes 0 0 (body_of bytes) (omega arith) (omega arith) (λ q. refl) (omega arith)) [
+        | inr fault ↦ inr (fault.0, fault.1, whole_fault bytes header_is fault.0 fault.1 fault.2)
+        | inl (es, stop, are, few, few_queries, no_executor, no_query) ↦
+            elim (end_here bytes (0 + length es) (0 + sum_by length es) stop (AreExecutors-within bytes (body_of bytes) es stop (omega arith) are) no_executor no_query) [
+              | inl is ↦ inl (es, record { header = header_is; stop = stop; are = are; ended = is; fits = record { few_executors = omega (arith, few); few_queries = omega (arith, few_queries) } })
+              | inr fault ↦ inr (fault.0, fault.1, whole_fault bytes header_is fault.0 fault.1 ((Leads-executors bytes 0 0 (body_of bytes) stop es few few_queries are).back fault.0 fault.1 fault.2))
+            ]
+      ]
+
+  pub SpellsSession-or_fault : SpelledOrFaulty
+  SpellsSession-or_fault bytes =
+      elim (is_header bytes (line_from bytes 0)) [
+        | inl is ↦ behind_header bytes is
+        | inr other ↦ inr (kinds.BadHeader, (token_at bytes (line_from bytes 0)).from, bad_header bytes other)
+      ]

@@ -1,22 +1,22 @@
 -- What is written for a session is spelled as that session.
-use Rattle.std.proofs.Common.{◌≡◌, ℕ, ◌+◌, ◌≤◌, false, List, [], ◌∷◌, ◌++◌, length, take, drop, refl, sym, ap, subst, ◌∙◌, append_assoc, arith, length-append, length-drop, All, flat_map}
+use Rattle.std.proofs.Common.{◌≡◌, ℕ, ◌+◌, ◌≤◌, false, List, [], ◌∷◌, ◌++◌, length, take, drop, refl, sym, ap, subst, ◌∙◌, append_assoc, arith, inr, length-append, length-drop, All, flat_map}
 use Rattle.std.specs.Prelude.{codes}
 use Rattle.std.specs.List.{prefix_len}
 use Rattle.std.proofs.lemmas.List.{drop-drop, take-append-drop, length-take-le}
 use Rattle.std.proofs.lemmas.List.Elements.{All-head, All-tail}
 use Rattle.lin_model.specs.Conditions.{PlainCondition, IsCondition}
-use Rattle.lin_text.specs.Spelling.{line, condition_text, query_text, executor_text, session_text}
-use Rattle.lin_text.specs.Laws.{EndsQuery}
+use Rattle.lin_text.specs.Spelling.{line, condition_text}
+use Rattle.lin_text.specs.Laws.{EndsQuery, WrittenIsSpelledWithin}
 use Rattle.lin_text.specs.Lines.{is_blank, is_in_line, is_skipped, first_line, line_from, line_below}
 use Rattle.lin_text.specs.Tokens.{token_from, token_here, token_length}
 use Rattle.lin_text.specs.Pieces.{PlainToken, word, line_end, plain_token, piece_of, name_piece}
 use Rattle.lin_text.specs.Queries.{Spells}
 use Rattle.lin_text.proofs.LineLemmas.{line_from-here, line_from-end}
-use Rattle.lin_text.proofs.ReadBackTokens.{drop-behind}
+use Rattle.lin_text.proofs.ListLemmas.{drop-behind}
 use Rattle.lin_text.proofs.ReadBackFront.{front_of, front_piece, first_token-front}
-use Rattle.lin_text.proofs.ReadBackWithin.{Spells-within, EndsQuery-query, EndsQuery-executor, EndsQuery-end}
 use Rattle.session_text.specs.Words.{green_word, one_digit, executor_word, query_word, end_word, token_at, second_at, IsHeader, IsWordLine}
 use Rattle.session_text.specs.Sessions.{AreQueries, AreExecutors, IsEnd, body_of, SpellsSession}
+use Rattle.session_text.specs.Spelling.{query_text, executor_text, session_text}
 use Rattle.session_text.specs.Laws.{WrittenIsSpelled}
 
 -- a text that begins with a line of one word, of so many bytes
@@ -74,17 +74,23 @@ word_line bytes at w text more n le e is = record { begins = ap (λ (m : ℕ). (
         let there : at + (n + 1) ≡ line_below bytes at = omega (arith, run, long, length-drop (at + n) bytes) in
         there ∙ ap (line_below bytes) (sym here)
 
--- a condition within a text
-condition_there : (bytes : List ℕ) (at : ℕ) (q : PlainCondition) (rest : List ℕ) → at ≤ length bytes → IsCondition q → EndsQuery rest → drop at bytes ≡ condition_text q ++ rest → Spells false bytes at q (at + length (condition_text q))
-condition_there bytes at q rest le is ends e =
-    let front : List ℕ = take at bytes in
-    let all : front ++ (condition_text q ++ rest) ≡ bytes = ap (λ (xs : List ℕ). front ++ xs) (sym e) ∙ take-append-drop at bytes in
-    let long : length front ≡ at = length-take-le at bytes le in
-    subst (λ (m : ℕ). Spells false bytes m q (m + length (condition_text q))) long (subst (λ (xs : List ℕ). Spells false xs (length front) q (length front + length (condition_text q))) all (Spells-within front rest q is ends))
-
 -- how far a text goes that stands at a place
 reaches : (bytes : List ℕ) (at : ℕ) (xs ys : List ℕ) → at ≤ length bytes → drop at bytes ≡ xs ++ ys → at + length xs ≤ length bytes
 reaches bytes at xs ys le e = omega (arith, ap length e, length-append xs ys, length-drop at bytes, le)
+
+-- the words behind a query
+
+EndsQuery-query : (more : List ℕ) → EndsQuery (codes "query\n" ++ more)
+unfolding token_from token_here token_length plain_token piece_of name_piece
+EndsQuery-query more = inr (codes "query", refl)
+
+EndsQuery-executor : (more : List ℕ) → EndsQuery (codes "executor\n" ++ more)
+unfolding token_from token_here token_length plain_token piece_of name_piece
+EndsQuery-executor more = inr (codes "executor", refl)
+
+EndsQuery-end : (more : List ℕ) → EndsQuery (codes "end\n" ++ more)
+unfolding token_from token_here token_length plain_token piece_of name_piece
+EndsQuery-end more = inr (codes "end", refl)
 
 -- a query of a session
 
@@ -101,19 +107,6 @@ query_split : (q : PlainCondition) (qs : List PlainCondition) (rest : List ℕ) 
 unfolding query_text
 query_split q qs rest = append_assoc (line (codes "query") ++ condition_text q) (flat_map query_text qs) rest ∙ append_assoc (line (codes "query")) (condition_text q) (more_queries qs rest)
 
-queries_written : (bytes rest : List ℕ) (qs : List PlainCondition) (at : ℕ) → All IsCondition qs → EndsQuery rest → at ≤ length bytes → drop at bytes ≡ more_queries qs rest → (stop : ℕ) × AreQueries bytes at qs stop × (stop ≤ length bytes) × (drop stop bytes ≡ rest)
-queries_written bytes rest [] at all ends le e = (at, refl, le, e)
-queries_written bytes rest (q ∷ qs) at all ends le e =
-    let tail : List ℕ = condition_text q ++ more_queries qs rest in
-    let text : drop at bytes ≡ codes "query\n" ++ tail = e ∙ query_split q qs rest in
-    let below : ℕ = at + length (codes "query\n") in
-    let within : below ≤ length bytes = reaches bytes at (codes "query\n") tail le text in
-    let there : drop below bytes ≡ tail = drop-behind bytes at (codes "query\n") tail text in
-    let stop : ℕ = below + length (condition_text q) in
-    let spelled = condition_there bytes below q (more_queries qs rest) within (All-head IsCondition q qs all) (queries_end qs rest ends) there in
-    let more = queries_written bytes rest qs stop (All-tail IsCondition q qs all) ends (reaches bytes below (condition_text q) (more_queries qs rest) within there) (drop-behind bytes below (condition_text q) (more_queries qs rest) there) in
-    (more.0, (stop, record { below = below; line = word_line bytes at query_word (codes "query\n" ++ tail) tail 5 le text (query_begins tail); spelled = spelled }, more.1), more.2, more.3)
-
 -- an executor of a session
 
 abbrev more_executors : List (List PlainCondition) → List ℕ → List ℕ
@@ -127,18 +120,6 @@ executor_split qs es rest =
 executors_end : (es : List (List PlainCondition)) (rest : List ℕ) → EndsQuery rest → EndsQuery (more_executors es rest)
 executors_end [] rest ends = ends
 executors_end (qs ∷ es) rest ends = subst EndsQuery (sym (executor_split qs es rest)) (EndsQuery-executor (more_queries qs (more_executors es rest)))
-
-executors_written : (bytes rest : List ℕ) (es : List (List PlainCondition)) (at : ℕ) → All (All IsCondition) es → EndsQuery rest → at ≤ length bytes → drop at bytes ≡ more_executors es rest → (stop : ℕ) × AreExecutors bytes at es stop × (stop ≤ length bytes) × (drop stop bytes ≡ rest)
-executors_written bytes rest [] at all ends le e = (at, refl, le, e)
-executors_written bytes rest (qs ∷ es) at all ends le e =
-    let tail : List ℕ = more_queries qs (more_executors es rest) in
-    let text : drop at bytes ≡ codes "executor\n" ++ tail = e ∙ executor_split qs es rest in
-    let below : ℕ = at + length (codes "executor\n") in
-    let within : below ≤ length bytes = reaches bytes at (codes "executor\n") tail le text in
-    let there : drop below bytes ≡ tail = drop-behind bytes at (codes "executor\n") tail text in
-    let asked = queries_written bytes (more_executors es rest) qs below (All-head (All IsCondition) qs es all) (executors_end es rest ends) within there in
-    let more = executors_written bytes rest es asked.0 (All-tail (All IsCondition) qs es all) ends asked.2 asked.3 in
-    (more.0, (asked.0, record { below = below; line = word_line bytes at executor_word (codes "executor\n" ++ tail) tail 8 le text (executor_begins tail); asked = asked.1 }, more.1), more.2, more.3)
 
 -- the header, and the end
 
@@ -168,16 +149,51 @@ session_split : (s : List (List PlainCondition)) → session_text s ≡ codes "g
 unfolding session_text
 session_split s = append_assoc (line (codes "green 1")) (flat_map executor_text s) (line (codes "end"))
 
-pub SpellsSession-written : WrittenIsSpelled
-SpellsSession-written s fits all =
-    let tail : List ℕ = more_executors s (codes "end\n") in
-    let bytes : List ℕ = codes "green 1\n" ++ tail in
-    let body : body_of bytes ≡ 8 = body_there tail in
-    let read = executors_written bytes (codes "end\n") s 8 all (EndsQuery-end []) (omega (arith, length-append (codes "green 1\n") tail)) refl in
-    subst (λ (xs : List ℕ). SpellsSession xs s) (sym (session_split s)) (record {
-      header = header_there tail;
-      stop = read.0;
-      are = subst (λ (m : ℕ). AreExecutors bytes m s read.0) (sym body) read.1;
-      ended = end_there bytes read.0 read.2 read.3;
-      fits = fits;
-    })
+-- what is written for a condition is spelled as that condition within a text
+module _ (condition_within : WrittenIsSpelledWithin) where
+  -- a condition within a text
+  condition_there : (bytes : List ℕ) (at : ℕ) (q : PlainCondition) (rest : List ℕ) → at ≤ length bytes → IsCondition q → EndsQuery rest → drop at bytes ≡ condition_text q ++ rest → Spells false bytes at q (at + length (condition_text q))
+  condition_there bytes at q rest le is ends e =
+      let front : List ℕ = take at bytes in
+      let all : front ++ (condition_text q ++ rest) ≡ bytes = ap (λ (xs : List ℕ). front ++ xs) (sym e) ∙ take-append-drop at bytes in
+      let long : length front ≡ at = length-take-le at bytes le in
+      subst (λ (m : ℕ). Spells false bytes m q (m + length (condition_text q))) long (subst (λ (xs : List ℕ). Spells false xs (length front) q (length front + length (condition_text q))) all (condition_within front rest q is ends))
+
+  queries_written : (bytes rest : List ℕ) (qs : List PlainCondition) (at : ℕ) → All IsCondition qs → EndsQuery rest → at ≤ length bytes → drop at bytes ≡ more_queries qs rest → (stop : ℕ) × AreQueries bytes at qs stop × (stop ≤ length bytes) × (drop stop bytes ≡ rest)
+  queries_written bytes rest [] at all ends le e = (at, refl, le, e)
+  queries_written bytes rest (q ∷ qs) at all ends le e =
+      let tail : List ℕ = condition_text q ++ more_queries qs rest in
+      let text : drop at bytes ≡ codes "query\n" ++ tail = e ∙ query_split q qs rest in
+      let below : ℕ = at + length (codes "query\n") in
+      let within : below ≤ length bytes = reaches bytes at (codes "query\n") tail le text in
+      let there : drop below bytes ≡ tail = drop-behind bytes at (codes "query\n") tail text in
+      let stop : ℕ = below + length (condition_text q) in
+      let spelled = condition_there bytes below q (more_queries qs rest) within (All-head IsCondition q qs all) (queries_end qs rest ends) there in
+      let more = queries_written bytes rest qs stop (All-tail IsCondition q qs all) ends (reaches bytes below (condition_text q) (more_queries qs rest) within there) (drop-behind bytes below (condition_text q) (more_queries qs rest) there) in
+      (more.0, (stop, record { below = below; line = word_line bytes at query_word (codes "query\n" ++ tail) tail 5 le text (query_begins tail); spelled = spelled }, more.1), more.2, more.3)
+
+  executors_written : (bytes rest : List ℕ) (es : List (List PlainCondition)) (at : ℕ) → All (All IsCondition) es → EndsQuery rest → at ≤ length bytes → drop at bytes ≡ more_executors es rest → (stop : ℕ) × AreExecutors bytes at es stop × (stop ≤ length bytes) × (drop stop bytes ≡ rest)
+  executors_written bytes rest [] at all ends le e = (at, refl, le, e)
+  executors_written bytes rest (qs ∷ es) at all ends le e =
+      let tail : List ℕ = more_queries qs (more_executors es rest) in
+      let text : drop at bytes ≡ codes "executor\n" ++ tail = e ∙ executor_split qs es rest in
+      let below : ℕ = at + length (codes "executor\n") in
+      let within : below ≤ length bytes = reaches bytes at (codes "executor\n") tail le text in
+      let there : drop below bytes ≡ tail = drop-behind bytes at (codes "executor\n") tail text in
+      let asked = queries_written bytes (more_executors es rest) qs below (All-head (All IsCondition) qs es all) (executors_end es rest ends) within there in
+      let more = executors_written bytes rest es asked.0 (All-tail (All IsCondition) qs es all) ends asked.2 asked.3 in
+      (more.0, (asked.0, record { below = below; line = word_line bytes at executor_word (codes "executor\n" ++ tail) tail 8 le text (executor_begins tail); asked = asked.1 }, more.1), more.2, more.3)
+
+  pub SpellsSession-written : WrittenIsSpelled
+  SpellsSession-written s fits all =
+      let tail : List ℕ = more_executors s (codes "end\n") in
+      let bytes : List ℕ = codes "green 1\n" ++ tail in
+      let body : body_of bytes ≡ 8 = body_there tail in
+      let read = executors_written bytes (codes "end\n") s 8 all (EndsQuery-end []) (omega (arith, length-append (codes "green 1\n") tail)) refl in
+      subst (λ (xs : List ℕ). SpellsSession xs s) (sym (session_split s)) (record {
+        header = header_there tail;
+        stop = read.0;
+        are = subst (λ (m : ℕ). AreExecutors bytes m s read.0) (sym body) read.1;
+        ended = end_there bytes read.0 read.2 read.3;
+        fits = fits;
+      })

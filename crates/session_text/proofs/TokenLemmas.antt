@@ -159,10 +159,6 @@ pub to-same : (bytes : List ℕ) (at : ℕ) (t : Token) → t ≡ token_from byt
 unfolding plain_token
 to-same bytes at t e = ap (λ (u : Token). u.to) e
 
-pub from-same : (bytes : List ℕ) (at : ℕ) (t : Token) → t ≡ token_from bytes at → t.from ≡ (token_at bytes at).from
-unfolding plain_token
-from-same bytes at t e = ap (λ (u : Token). u.from) e
-
 pub end-same : (bytes : List ℕ) (at : ℕ) (t : Token) → t ≡ token_from bytes at → (t.kind ≡ kinds.LineEnd → (token_at bytes at).piece ≡ line_end_piece) × ((token_at bytes at).piece ≡ line_end_piece → t.kind ≡ kinds.LineEnd)
 unfolding plain_token piece_of
 end-same bytes at t e = (

@@ -1,11 +1,11 @@
 -- Faults at the first and the second token of a line of the session's own, at the end, and in the header.
 use Rattle.std.proofs.Common.{◌≡◌, ℕ, ◌+◌, ◌<◌, ◌≤◌, suc, true, false, nat_lt, List, [], ◌∷◌, ◌++◌, length, drop, refl, sym, ap, subst, ◌∙◌, arith, inl, inr, ◌⊎◌, length-drop}
+use Rattle.std.proofs.lemmas.List.Sums.{prefix_len-le-length}
 use borrow.Author.Tests.{ltb-true, ltb-false}
 use Rattle.lin_text.specs.declared.fault.SessionKind.{SessionKind}
 use Rattle.lin_text.specs.declared.fault.SessionKind.TheVariants as kinds
 use Rattle.lin_text.specs.Lines.{line_from, line_end as end_of, is_in_line}
 use Rattle.lin_text.specs.Pieces.{Piece, word, line_end, PlainToken, PlainLine, pieces, AreLines}
-use Rattle.lin_text.proofs.LineLemmas.{prefix_len-le}
 use Rattle.lin_text.proofs.Positions.{first_token-ahead, first_line-bounds, lines_total}
 use Rattle.session_text.specs.Words.{executor_word, query_word, token_at, second_at, IsHeader}
 use Rattle.session_text.specs.Sessions.{body_of}
@@ -155,7 +155,7 @@ bad_header bytes other = record {
   within = let a = first_token-ahead false bytes (line_from bytes 0) in omega (arith, a.order, a.within)
 
   whole : end_of bytes (line_from bytes 0) ≤ length bytes
-  whole = omega (arith, prefix_len-le is_in_line (drop (line_from bytes 0) bytes), length-drop (line_from bytes 0) bytes, (first_line-bounds true 0 bytes).1)
+  whole = omega (arith, prefix_len-le-length is_in_line (drop (line_from bytes 0) bytes), length-drop (line_from bytes 0) bytes, (first_line-bounds true 0 bytes).1)
 
   least : (k : SessionKind) (p : ℕ) → StandsAt bytes more.0 k p → (place < p) ⊎ ((place ≡ p) × (rank kinds.BadHeader ≤ rank k))
   least k p (inl b) = inr (sym b.place, omega arith)

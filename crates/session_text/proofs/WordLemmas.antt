@@ -15,9 +15,6 @@ same_bytes xs ys e = (bytes_eq-Decides xs ys).0 e
 pub bytes_eq-is : (xs ys : List ℕ) → xs ≡ ys → bytes_eq xs ys ≡ true
 bytes_eq-is xs ys e = (bytes_eq-Decides xs ys).1 e
 
-pub bytes_eq-refl : (xs : List ℕ) → bytes_eq xs xs ≡ true
-bytes_eq-refl xs = (bytes_eq-Decides xs xs).1 refl
-
 -- the words differ
 pub executor_not_query : executor_word ≡ query_word → ⊥
 unfolding executor_word query_word
@@ -98,14 +95,6 @@ by_word w c h =
       ] refl k
     ] refl h
 
-pub class-executor : (p : Piece) → class_of p ≡ Executor → p ≡ word executor_word
-class-executor (word w) h =
-    elim (by_word w Executor h) [
-      | inl e ↦ ap word e.0
-      | inr a ↦ elim a [ inl e ↦ absurd (let no = e.1 in cc) | inr b ↦ elim b [ inl e ↦ absurd (let no = e.1 in cc) | inr e ↦ absurd (cc) ] ]
-    ]
-class-executor _ h = absurd (cc)
-
 pub class-query : (p : Piece) → class_of p ≡ Query → p ≡ word query_word
 class-query (word w) h =
     elim (by_word w Query h) [
@@ -121,10 +110,6 @@ class-end (word w) h =
       | inr a ↦ elim a [ inl e ↦ absurd (let no = e.1 in cc) | inr b ↦ elim b [ inl e ↦ ap word e.0 | inr e ↦ absurd (cc) ] ]
     ]
 class-end _ h = absurd (cc)
-
-pub executor-class : (p : Piece) → p ≡ word executor_word → class_of p ≡ Executor
-unfolding executor_word query_word end_word
-executor-class p h = ap class_of h
 
 pub query-class : (p : Piece) → p ≡ word query_word → class_of p ≡ Query
 unfolding executor_word query_word end_word

@@ -18,5 +18,6 @@ pub record IsMemoryFault (f : SessionFault) : Type 0 where
   pub line : f.line ≡ 0
   pub column : f.column ≡ 0
 
+-- the fault that is told: want of memory, or the fault of the text
 abbrev pub IsFault : List ℕ → SessionFault → Type 0
 IsFault bytes f = IsMemoryFault f ⊎ IsPlaced bytes f

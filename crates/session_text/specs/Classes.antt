@@ -10,9 +10,11 @@ use Rattle.session_text.specs.declared.class.Class.TheVariants.{Executor, Query,
 use Rattle.session_text.specs.Words.{executor_word, query_word, end_word}
 use Rattle.session_text.specs.Faults.{session_kind}
 
+-- the class of a reserved word
 abbrev pub class_of_word : List ℕ → Class
 class_of_word w = if bytes_eq w executor_word then Executor else (if bytes_eq w query_word then Query else (if bytes_eq w end_word then End else Other))
 
+-- the class of a token
 abbrev pub class_of : Piece → Class
 class_of (word w) = class_of_word w
 class_of bad = Bad

@@ -24,6 +24,7 @@ pub record Seen : Type 0 where
   pub executors : ℕ
   pub queries : ℕ
 
+-- the token is this word
 abbrev pub is_the_word : List ℕ → Piece → Bool
 is_the_word w (word x) = bytes_eq x w
 is_the_word w _ = false
@@ -46,6 +47,7 @@ abbrev pub part_with : Part → PlainLine → Part
 part_with (query above) line = query (above ++ line ∷ [])
 part_with part line = part
 
+-- the part below a line
 abbrev pub part_below : Part → PlainLine → Part
 part_below part line = if begins_word (pieces line.tokens) then part_of_word (first_word (pieces line.tokens)) else part_with part line
 
@@ -76,6 +78,7 @@ abbrev pub query_above : Part → List Piece → Option (List PlainLine)
 query_above (query above) ps = if begins_word ps then None else Some above
 query_above part ps = None
 
+-- a kind of fault of a query's text, as one of a session's
 abbrev pub session_kind : TextKind → SessionKind
 session_kind texts.Token = Token
 session_kind texts.Syntax = Syntax
@@ -111,7 +114,7 @@ pub record StandsInLine (seen : Seen) (line : PlainLine) (kind : SessionKind) (a
   pub place : at ≡ token.from
   pub stands : IsOneTooMany seen (pieces front) token.piece kind ⊎ MatchOption (query_above seen.part (pieces line.tokens)) (CantCome seen.part (pieces front) token.piece kind) (λ above. IsOfQuery above (pieces front) token.piece (pieces after) kind)
 
--- a fault of the kind stands at this place of the lines, or at the input's end, where no end line came
+-- a fault of the kind stands at this place in the lines; where these are over and none of them was the end line, at the end of the bytes
 abbrev pub StandsIn : List ℕ → Seen → List PlainLine → SessionKind → ℕ → Type 0
 StandsIn bytes seen [] kind at = (kind ≡ NoEnd) × (at ≡ length bytes) × (seen.part ≢ ended)
 StandsIn bytes seen (line ∷ lines) kind at = StandsInLine seen line kind at ⊎ StandsIn bytes (seen_below seen line) lines kind at

@@ -1,8 +1,8 @@
 -- Laws of the texts of sessions.
 use Rattle.std.specs.Prelude.{◌≡◌, ℕ, ◌⊎◌, List, All}
 use Rattle.lin_model.specs.Conditions.{PlainCondition, IsCondition, IsSession}
-use Rattle.lin_text.specs.Spelling.{session_text}
 use Rattle.lin_text.specs.declared.fault.SessionKind.{SessionKind}
+use Rattle.session_text.specs.Spelling.{session_text}
 use Rattle.session_text.specs.Sessions.{SpellsSession}
 use Rattle.session_text.specs.Faults.{HasFault}
 

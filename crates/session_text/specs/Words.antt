@@ -3,15 +3,19 @@ use Rattle.std.specs.Prelude.{◌≡◌, ℕ, false, List, slice_range, codes}
 use Rattle.lin_text.specs.Lines.{line_from, line_below}
 use Rattle.lin_text.specs.Pieces.{word, line_end, PlainToken, first_token}
 
+-- the first word of the header
 unfoldable pub green_word : List ℕ
 green_word = codes "green"
 
+-- the word of an executor line
 unfoldable pub executor_word : List ℕ
 executor_word = codes "executor"
 
+-- the word of a query line
 unfoldable pub query_word : List ℕ
 query_word = codes "query"
 
+-- the word of the end line
 unfoldable pub end_word : List ℕ
 end_word = codes "end"
 

@@ -9,7 +9,7 @@ use lin_text::{SessionKind, TextKind};
 use outside::NoMemory;
 use std::alloc::{AllocError, AllocFailed};
 
-/// A fault, at a place among the bytes.
+/// A fault, at a place among the bytes, counted from 0.
 #[derive(Clone, Copy, Debug)]
 pub struct Fault {
     pub kind: SessionKind,
@@ -19,7 +19,9 @@ pub struct Fault {
 /// Why a part wasn't read.
 #[derive(Clone, Copy, Debug)]
 pub enum ReadError {
+    /// Want of memory.
     Memory,
+    /// The first fault of the text.
     Fault(Fault),
 }
 

@@ -150,8 +150,8 @@ fn read_whole(alloc: Global, bytes: &[u8]) -> Result<Session, ReadError>
 
 /// Reads a session: the header `green 1`, for each executor the line `executor` and its queries, each the
 /// line `query` and the lines of a condition, and then the line `end`, each on a line of its own. Lines
-/// with blanks alone and lines that begin with `#` are skipped. `Ok` says that the input was read to its
-/// end.
+/// with blanks alone and lines that begin with `#` are skipped. A session is answered only where nothing
+/// of the input is left.
 ///
 /// The fault at the least place is answered, with its line and its column from the input's start; at one
 /// place the one that goes first: `BadHeader`, `TooManyExecutors`, `TooManyQueries`, the kinds of

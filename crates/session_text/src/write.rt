@@ -1,7 +1,8 @@
 //! Writing: the plain spelling of a session.
 ghost use Rattle.std.specs.Prelude.{◌≡◌, ◌++◌, All, IfOk, OnOk, flat_map};
 ghost use Rattle.lin_model.specs.Conditions.{IsCondition};
-ghost use Rattle.lin_text.specs.Spelling.{line, query_text, executor_text, session_text};
+ghost use Rattle.lin_text.specs.Spelling.{line};
+ghost use Rattle.session_text.specs.Spelling.{query_text, executor_text, session_text};
 ghost use Rattle.session_text.specs.Sessions.{SpellsSession};
 
 use crate::laws::written_is_spelled;
@@ -13,7 +14,7 @@ use std::alloc::Global;
 /// The plain spelling of a session: the header, for each executor its line and, for each of its queries, the
 /// line `query` and the plain spelling of the condition, and then the line `end`. A line feed ends each line.
 /// The text spells the session.
-#[tactic(auto, unfolding(lin_text::specs::Spelling::session_text))]
+#[tactic(auto, unfolding(crate::specs::Spelling::session_text))]
 pub fn write_session(alloc: Global, s: &Session) -> Result<Vec<u8>, NoMemory>
     ensures text { IfOk result (λ text. text.items ≡ session_text s.now) }
     ensures read_back { IfOk result (λ text. SpellsSession text.items s.now) }
@@ -44,7 +45,7 @@ fn push_executors(out: &mut Vec<u8>, scripts: &[Script]) -> Result<(), NoMemory>
     Ok(())
 }
 
-#[tactic(auto, unfolding(lin_text::specs::Spelling::executor_text))]
+#[tactic(auto, unfolding(crate::specs::Spelling::executor_text))]
 fn push_executor(out: &mut Vec<u8>, queries: &[Condition]) -> Result<(), NoMemory>
     ensures text { OnOk result (out.new.items ≡ out.old.items ++ executor_text queries.now) }
     ensures fits { OnOk result (All IsCondition queries.now) }
@@ -63,7 +64,7 @@ fn push_queries(out: &mut Vec<u8>, queries: &[Condition]) -> Result<(), NoMemory
     Ok(())
 }
 
-#[tactic(auto, unfolding(lin_text::specs::Spelling::query_text))]
+#[tactic(auto, unfolding(crate::specs::Spelling::query_text))]
 fn push_asked(out: &mut Vec<u8>, query: &Condition) -> Result<(), NoMemory>
     ensures text { OnOk result (out.new.items ≡ out.old.items ++ query_text query.now) }
     ensures fits { OnOk result (IsCondition query.now) }

@@ -13,25 +13,25 @@ use Rattle.slicer.specs.declared.var_set.VarSet.{VarSet}
 use Rattle.slicer.specs.Linked.{Linked, alone}
 use Rattle.slicer.specs.Names.{Names}
 use Rattle.slicer.specs.Slices.{PlainSlice, Lists, IsSliceOf, AreClasses, least}
-use Rattle.slicer.specs.VarSets.{Has, Meet, IsVoid, AreSetsOf, IsReached}
+use Rattle.slicer.specs.VarSets.{Has, Meet, AreSetsOf, IsReached}
 use Rattle.slicer.proofs.ChainLemmas.{Chain-append, Chain-turned}
-use Rattle.slicer.proofs.ListsLemmas.{Lists-same}
+use Rattle.slicer.proofs.ListsLemmas.{below_or_last, Lists-same}
 use Rattle.slicer.proofs.SetLemmas.{Linked-sets, NamesAt-sets}
 
 -- some slice has the variable
 abbrev pub InSome : List PlainSlice → ℕ → Type 0
 InSome slices v = Any (λ slice. Contains slice.vars v) slices
 
--- the classes of the variables below a count, and the set of the variables that they have
-pub record AreClassesBelow (c : PlainCondition) (count : ℕ) (slices : List PlainSlice) (seen : VarSet) : Type 0 where
+-- the classes of the variables below a count, and which variables they have
+pub record AreClassesBelow (c : PlainCondition) (count : ℕ) (slices : List PlainSlice) (Seen : ℕ → Type 0) : Type 0 where
   pub each : All (λ slice. IsSliceOf c (least slice) slice) slices
   pub by_least : AllPairs (λ earlier later. least earlier < least later) slices
   pub below : All (λ slice. least slice < count) slices
-  pub every : (v : ℕ) → v < count → Has seen v
-  pub in_some : (v : ℕ) → v < length c.vars → Has seen v ↔ InSome slices v
+  pub every : (v : ℕ) → v < count → Seen v
+  pub in_some : (v : ℕ) → v < length c.vars → Seen v ↔ InSome slices v
 
-pub AreClassesBelow-none : (c : PlainCondition) (seen : VarSet) → IsVoid seen → AreClassesBelow c 0 [] seen
-AreClassesBelow-none c seen void = record {
+pub AreClassesBelow-none : (c : PlainCondition) (Seen : ℕ → Type 0) → ((v : ℕ) → ¬ Seen v) → AreClassesBelow c 0 [] Seen
+AreClassesBelow-none c Seen void = record {
   each = All-nil (λ slice. IsSliceOf c (least slice) slice);
   by_least = λ i j d before within. absurd (omega arith);
   below = All-nil (λ slice. least slice < 0);
@@ -39,16 +39,13 @@ AreClassesBelow-none c seen void = record {
   in_some = λ v lt. (λ has. absurd (void v has), λ some. absurd (omega (arith, some.2)));
 }
 
-below_or_same : (n count : ℕ) → n < count + 1 → (n < count) ⊎ (n ≡ count)
-below_or_same n count lt = elim (eqb_tells n count) [ inl same ↦ inr same.1 | inr other ↦ inl (let ne = other.1 in omega arith) ]
-
 -- the variable is in a slice before it
-pub AreClassesBelow-seen : (c : PlainCondition) (var : ℕ) (slices : List PlainSlice) (seen : VarSet) → AreClassesBelow c var slices seen → Has seen var → AreClassesBelow c (var + 1) slices seen
-AreClassesBelow-seen c var slices seen so_far has = record {
+pub AreClassesBelow-seen : (c : PlainCondition) (var : ℕ) (slices : List PlainSlice) (Seen : ℕ → Type 0) → AreClassesBelow c var slices Seen → Seen var → AreClassesBelow c (var + 1) slices Seen
+AreClassesBelow-seen c var slices Seen so_far has = record {
   each = so_far.each;
   by_least = so_far.by_least;
   below = All-weaker (λ (slice : PlainSlice). least slice < var) (λ slice. least slice < var + 1) (λ slice lt. omega arith) slices so_far.below;
-  every = λ v lt. elim (below_or_same v var lt) [ inl earlier ↦ so_far.every v earlier | inr same ↦ rw same has ];
+  every = λ v lt. elim (below_or_last v var lt) [ inl earlier ↦ so_far.every v earlier | inr same ↦ subst Seen (sym same) has ];
   in_some = so_far.in_some;
 }
 
@@ -64,8 +61,8 @@ first_of_ascending numbers n ascending has = (
 )
 
 -- a variable that no earlier slice has is the least of its class
-least_is : (c : PlainCondition) (var : ℕ) (slices : List PlainSlice) (seen : VarSet) (slice : PlainSlice) → AreClassesBelow c var slices seen → ¬ Has seen var → IsSliceOf c var slice → least slice ≡ var
-least_is c var slices seen slice so_far unseen here =
+least_is : (c : PlainCondition) (var : ℕ) (slices : List PlainSlice) (Seen : ℕ → Type 0) (slice : PlainSlice) → AreClassesBelow c var slices Seen → ¬ Seen var → IsSliceOf c var slice → least slice ≡ var
+least_is c var slices Seen slice so_far unseen here =
     let self : Contains slice.vars var = (here.vars.just var).1 (here.declared, alone) in
     let first = first_of_ascending slice.vars var here.vars.ascending self in
     let joined = (here.vars.just (least slice)).0 first.0 in
@@ -84,12 +81,12 @@ least_is c var slices seen slice so_far unseen here =
     ]
 
 -- a list with one more slice has what the new one has
-InSome-push : (slices : List PlainSlice) (slice : PlainSlice) (v : ℕ) → InSome (slices ++ slice ∷ []) v ↔ (InSome slices v ⊎ Contains slice.vars v)
+pub InSome-push : (slices : List PlainSlice) (slice : PlainSlice) (v : ℕ) → InSome (slices ++ slice ∷ []) v ↔ (InSome slices v ⊎ Contains slice.vars v)
 InSome-push slices slice v = (
   λ some.
       let length_is = length_push slices slice in
       let within = some.2 in
-      elim (below_or_same some.0 (length slices) (omega arith)) [
+      elim (below_or_last some.0 (length slices) (omega arith)) [
         | inl earlier ↦ inl (some.0, some.1, earlier, sym (get_or-append slices (slice ∷ []) some.1 some.0 earlier) ∙ some.3, some.4)
         | inr last ↦ inr (
             let at : get_or (slices ++ slice ∷ []) (length slices) some.1 ≡ some.1 = subst (λ (k : ℕ). get_or (slices ++ slice ∷ []) k some.1 ≡ some.1) last some.3 in
@@ -108,23 +105,31 @@ InSome-push slices slice v = (
 )
 
 -- the variable is the least of a class of its own
-pub AreClassesBelow-more : (c : PlainCondition) (var : ℕ) (slices : List PlainSlice) (seen : VarSet) (slice : PlainSlice) (linked after : VarSet) → AreClassesBelow c var slices seen → ¬ Has seen var → IsSliceOf c var slice → ((v : ℕ) → Has linked v ↔ Linked c var v) → ((v : ℕ) → Has after v ↔ (Has seen v ⊎ Has linked v)) → AreClassesBelow c (var + 1) (slices ++ slice ∷ []) after
-AreClassesBelow-more c var slices seen slice linked after so_far unseen here exact either =
-    let is : least slice ≡ var = least_is c var slices seen slice so_far unseen here in
+pub AreClassesBelow-more : (c : PlainCondition) (var : ℕ) (slices : List PlainSlice) (Seen After : ℕ → Type 0) (slice : PlainSlice) → AreClassesBelow c var slices Seen → ¬ Seen var → IsSliceOf c var slice → ((v : ℕ) → v < length c.vars → After v ↔ (Seen v ⊎ Contains slice.vars v)) → AreClassesBelow c (var + 1) (slices ++ slice ∷ []) After
+AreClassesBelow-more c var slices Seen After slice so_far unseen here grown =
+    let is : least slice ≡ var = least_is c var slices Seen slice so_far unseen here in
+    let declared = here.declared in
     record {
       each = All-push (λ (s : PlainSlice). IsSliceOf c (least s) s) slices slice so_far.each (subst (λ (v : ℕ). IsSliceOf c v slice) (sym is) here);
       by_least = all_pairs_push (λ (earlier later : PlainSlice). least earlier < least later) slices slice so_far.by_least (λ k d within. let lt = so_far.below k d within in omega arith);
       below = All-push (λ (s : PlainSlice). least s < var + 1) slices slice (All-weaker (λ (s : PlainSlice). least s < var) (λ s. least s < var + 1) (λ s lt. omega arith) slices so_far.below) (omega arith);
-      every = λ v lt. (either v).1 (elim (below_or_same v var lt) [ inl earlier ↦ inl (so_far.every v earlier) | inr same ↦ inr ((exact v).1 (rw same alone)) ]);
+      every = λ v lt. (grown v (omega arith)).1 (elim (below_or_last v var lt) [ inl earlier ↦ inl (so_far.every v earlier) | inr same ↦ inr ((here.vars.just v).1 (omega arith, rw same alone)) ]);
       in_some = λ v lt. (
-        λ has. (InSome-push slices slice v).1 (elim ((either v).0 has) [ inl earlier ↦ inl ((so_far.in_some v lt).0 earlier) | inr last ↦ inr ((here.vars.just v).1 (lt, (exact v).0 last)) ]),
-        λ some. (either v).1 (elim ((InSome-push slices slice v).0 some) [ inl earlier ↦ inl ((so_far.in_some v lt).1 earlier) | inr last ↦ inr ((exact v).1 ((here.vars.just v).0 last).1) ]),
+        λ after. (InSome-push slices slice v).1 (elim ((grown v lt).0 after) [ inl earlier ↦ inl ((so_far.in_some v lt).0 earlier) | inr last ↦ inr last ]),
+        λ some. (grown v lt).1 (elim ((InSome-push slices slice v).0 some) [ inl earlier ↦ inl ((so_far.in_some v lt).1 earlier) | inr last ↦ inr last ]),
       );
     }
 
+-- the set that takes in what is linked with the variable has its slice's variables besides
+pub grown_by_linked : (c : PlainCondition) (var : ℕ) (slice : PlainSlice) (seen linked after : VarSet) → IsSliceOf c var slice → ((v : ℕ) → Has linked v ↔ Linked c var v) → ((v : ℕ) → Has after v ↔ (Has seen v ⊎ Has linked v)) → (v : ℕ) → v < length c.vars → Has after v ↔ (Has seen v ⊎ Contains slice.vars v)
+grown_by_linked c var slice seen linked after here exact either v lt = (
+  λ has. elim ((either v).0 has) [ inl earlier ↦ inl earlier | inr last ↦ inr ((here.vars.just v).1 (lt, (exact v).0 last)) ],
+  λ one. (either v).1 (elim one [ inl earlier ↦ inl earlier | inr last ↦ inr ((exact v).1 ((here.vars.just v).0 last).1) ]),
+)
+
 -- once every variable was looked at, these are all classes
-pub AreClasses-all : (c : PlainCondition) (slices : List PlainSlice) (seen : VarSet) → AreClassesBelow c (length c.vars) slices seen → AreClasses c slices
-AreClasses-all c slices seen all = record {
+pub AreClasses-all : (c : PlainCondition) (slices : List PlainSlice) (Seen : ℕ → Type 0) → AreClassesBelow c (length c.vars) slices Seen → AreClasses c slices
+AreClasses-all c slices Seen all = record {
   each = all.each;
   by_least = all.by_least;
   every = λ v lt. (all.in_some v lt).0 (all.every v lt);

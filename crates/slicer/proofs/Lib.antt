@@ -1,4 +1,7 @@
 mod Bits
+pub mod ElementLemmas
+pub mod OrderedLemmas
+pub mod Lookups
 mod ChainLemmas
 mod NamedLemmas
 mod SpreadLemmas
@@ -8,4 +11,6 @@ mod ClassLemmas
 mod FrontLemmas
 mod UniqueLemmas
 mod PartitionLemmas
+mod DecisionLemmas
+mod ExistenceLemmas
 mod Worked

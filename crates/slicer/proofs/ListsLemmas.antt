@@ -16,7 +16,7 @@ Lists-none P = record {
 }
 
 -- a number that is below the count was before or is the last
-below_or_last : (n count : ℕ) → n < count + 1 → (n < count) ⊎ (n ≡ count)
+pub below_or_last : (n count : ℕ) → n < count + 1 → (n < count) ⊎ (n ≡ count)
 below_or_last n count lt = elim (eqb_tells n count) [ inl same ↦ inr same.1 | inr other ↦ inl (let ne = other.1 in omega arith) ]
 
 pub Lists-kept : (P : ℕ → Type 0) (count : ℕ) (numbers : List ℕ) → Lists (Below P count) numbers → P count → Lists (Below P (count + 1)) (numbers ++ count ∷ [])

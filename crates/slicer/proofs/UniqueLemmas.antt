@@ -1,6 +1,6 @@
 -- A condition has one list of slices alone.
-use Rattle.std.proofs.Common.{◌≡◌, ℕ, ◌<◌, zero, suc, List, [], ◌∷◌, ◌++◌, ◌⊎◌, inl, inr, refl, arith, sym, subst, ap, ◌∙◌}
-use Rattle.std.specs.Prelude.{AllPairs, Contains}
+use Rattle.std.proofs.Common.{◌≡◌, ℕ, ◌<◌, List, [], ◌∷◌, ◌++◌, refl, arith, sym, subst, ap, ◌∙◌}
+use Rattle.std.specs.Prelude.{Contains}
 use Rattle.std.proofs.lemmas.List.Elements.{Contains-get_or}
 use Rattle.lin_model.specs.Conditions.{PlainCondition}
 use Rattle.slicer.specs.Linked.{Linked}
@@ -9,62 +9,11 @@ use Rattle.slicer.specs.Slices.{PlainSlice, Lists, IsSliceOf, AreClasses, IsFron
 use Rattle.slicer.specs.Laws.{SlicesAreUnique}
 use Rattle.slicer.proofs.ChainLemmas.{Chain-turned}
 use Rattle.slicer.proofs.ClassLemmas.{first_of_ascending}
-
-pub Contains-cases : {X : Type 0} (x : X) (xs : List X) (n : X) → Contains (x ∷ xs) n → (x ≡ n) ⊎ Contains xs n
-Contains-cases x xs n (zero, within, is) = inl is
-Contains-cases x xs n (suc k, within, is) = inr (k, omega arith, is)
-
-Contains-later : {X : Type 0} (x : X) (xs : List X) (n : X) → Contains xs n → Contains (x ∷ xs) n
-Contains-later x xs n (k, within, is) = (suc k, omega arith, is)
-
-Contains-first : {X : Type 0} (x : X) (xs : List X) → Contains (x ∷ xs) x
-Contains-first x xs = (0, omega arith, refl)
-
-pub nothing_in_nil : {X : Type 0} (n : X) → ¬ Contains (let none : List X = [] in none) n
-nothing_in_nil n has = omega (arith, has.1)
-
-module _ {X : Type 0} (key : X → ℕ) where
-  -- the keys ascend
-  abbrev Ascends : List X → Type 0
-  Ascends xs = AllPairs (λ a b. key a < key b) xs
-
-  Ascends-tail : (x : X) (xs : List X) → Ascends (x ∷ xs) → Ascends xs
-  Ascends-tail x xs ascends i j d before within = ascends (suc i) (suc j) d (omega arith) (omega arith)
-
-  Ascends-head : (x : X) (xs : List X) (n : X) → Ascends (x ∷ xs) → Contains xs n → key x < key n
-  Ascends-head x xs n ascends has = subst (λ (y : X). key x < key y) has.2 (ascends 0 (suc has.0) n (omega arith) (let within = has.1 in omega arith))
-
-  heads_are_same : (x : X) (xs : List X) (y : X) (ys : List X) → Ascends (x ∷ xs) → Ascends (y ∷ ys) → Contains (y ∷ ys) x → Contains (x ∷ xs) y → x ≡ y
-  heads_are_same x xs y ys up_x up_y has_x has_y =
-      elim (Contains-cases y ys x has_x) [
-        | inl same ↦ sym same
-        | inr x_later ↦ elim (Contains-cases x xs y has_y) [
-          | inl same ↦ same
-          | inr y_later ↦ absurd (let a = Ascends-head y ys x up_y x_later in let b = Ascends-head x xs y up_x y_later in omega arith)
-        ]
-      ]
-
-  -- what both have apart from a common head
-  rest_has : (x : X) (xs : List X) (y : X) (ys : List X) → x ≡ y → Ascends (x ∷ xs) → ((n : X) → Contains (x ∷ xs) n → Contains (y ∷ ys) n) → (n : X) → Contains xs n → Contains ys n
-  rest_has x xs y ys same up there n has =
-      elim (Contains-cases y ys n (there n (Contains-later x xs n has))) [
-        | inl first ↦ absurd (let lt = Ascends-head x xs n up has in let e = ap key (same ∙ first) in omega arith)
-        | inr later ↦ later
-      ]
-
-  -- two ascending lists of the same elements are equal
-  pub same_from_ascending : (xs ys : List X) → Ascends xs → Ascends ys → ((n : X) → Contains xs n → Contains ys n) → ((n : X) → Contains ys n → Contains xs n) → xs ≡ ys
-  same_from_ascending [] [] up_x up_y there back = refl
-  same_from_ascending [] (y ∷ ys) up_x up_y there back = absurd (nothing_in_nil y (back y (Contains-first y ys)))
-  same_from_ascending (x ∷ xs) [] up_x up_y there back = absurd (nothing_in_nil x (there x (Contains-first x xs)))
-  same_from_ascending (x ∷ xs) (y ∷ ys) up_x up_y there back =
-      let head = heads_are_same x xs y ys up_x up_y (there x (Contains-first x xs)) (back y (Contains-first y ys)) in
-      let tail = same_from_ascending xs ys (Ascends-tail x xs up_x) (Ascends-tail y ys up_y) (rest_has x xs y ys head up_x there) (rest_has y ys x xs (sym head) up_y back) in
-      ap (λ (z : X). z ∷ xs) head ∙ ap (λ (zs : List X). y ∷ zs) tail
+use Rattle.slicer.proofs.OrderedLemmas.{same_from_in_order}
 
 pub Lists-unique : (P : ℕ → Type 0) (xs ys : List ℕ) → Lists P xs → Lists P ys → xs ≡ ys
 Lists-unique P xs ys a b =
-    same_from_ascending (λ (n : ℕ). n) xs ys a.ascending b.ascending (λ n has. (b.just n).1 ((a.just n).0 has)) (λ n has. (a.just n).1 ((b.just n).0 has))
+    same_from_in_order ◌<◌ (λ n m up down. omega arith) xs ys a.ascending b.ascending (λ n has. (b.just n).1 ((a.just n).0 has)) (λ n has. (a.just n).1 ((b.just n).0 has))
 
 slice_is : (s t : PlainSlice) → s.vars ≡ t.vars → s.atoms ≡ t.atoms → s ≡ t
 slice_is s t vars atoms =
@@ -106,5 +55,5 @@ AreClasses-has c one other a b s has =
 pub AreSlices-unique : SlicesAreUnique
 AreSlices-unique c one other a b =
     let front = IsFront-unique (NamesNothingAt c.atoms) a.front b.front a.variable_free b.variable_free in
-    let classes = same_from_ascending least a.classes b.classes a.linked.by_least b.linked.by_least (AreClasses-has c a.classes b.classes a.linked b.linked) (AreClasses-has c b.classes a.classes b.linked a.linked) in
+    let classes = same_from_in_order (λ s t. least s < least t) (λ s t up down. omega arith) a.classes b.classes a.linked.by_least b.linked.by_least (AreClasses-has c a.classes b.classes a.linked b.linked) (AreClasses-has c b.classes a.classes b.linked a.linked) in
     a.joined ∙ ap (λ (xs : List PlainSlice). xs ++ a.classes) front ∙ ap (λ (xs : List PlainSlice). b.front ++ xs) classes ∙ sym b.joined

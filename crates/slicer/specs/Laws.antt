@@ -1,8 +1,17 @@
 -- What the slices of a condition keep.
 use Rattle.std.specs.Prelude.{◌≡◌, ℕ, ◌<◌, List, length, All, Any, AllPairs, Contains}
-use Rattle.lin_model.specs.Conditions.{PlainCondition, Fits}
-use Rattle.slicer.specs.Names.{NamesAt}
+use Rattle.lin_model.specs.Conditions.{PlainCondition}
+use Rattle.slicer.specs.Names.{NamesAt, NamesDeclared}
 use Rattle.slicer.specs.Slices.{PlainSlice, AreSlices}
+
+-- some list has the slices of the condition
+pub record HasSlices (c : PlainCondition) : Type 0 where
+  pub slices : List PlainSlice
+  pub are : AreSlices c slices
+
+-- every condition has slices
+abbrev pub EachHasSlices : Type 0
+EachHasSlices = (c : PlainCondition) → HasSlices c
 
 -- a condition has one list of slices alone
 abbrev pub SlicesAreUnique : Type 0
@@ -24,6 +33,6 @@ pub record IsPartition (c : PlainCondition) (slices : List PlainSlice) : Type 0 
   pub apart : AllPairs AreApart slices
   pub named : All (HasNamed c) slices
 
--- the slices of a condition part it
+-- the slices of a condition part it, where its atoms name only variables that it declares
 abbrev pub SlicesPartition : Type 0
-SlicesPartition = (c : PlainCondition) (slices : List PlainSlice) → Fits c.vars c.atoms → AreSlices c slices → IsPartition c slices
+SlicesPartition = (c : PlainCondition) (slices : List PlainSlice) → NamesDeclared c → AreSlices c slices → IsPartition c slices

@@ -14,10 +14,9 @@ use outside::NoMemory;
 use std::alloc::Global;
 
 /// The slices of a condition (after Green, FSE 2012): one for each class of linked variables, with the
-/// atoms that name one of them, by least variable. Two variables are linked where a chain of atoms joins
-/// them, neighbours sharing a variable; a variable counts as named by each term on it, whatever the
-/// factor. Where some atoms name no variable, one slice without variables has them all and stands first.
-/// Numbers count from 0, and both lists of a slice ascend.
+/// atoms that name one of them, by least variable. An atom links all variables that its terms stand on,
+/// whatever the factors, and links carry over from atom to atom. The atoms that name no variable, if there
+/// are any, are a slice without variables in front. Numbers count from 0, and both lists of a slice ascend.
 pub fn slices(alloc: Global, c: &Condition) -> Result<Vec<Slice>, NoMemory>
     ensures { IfOk result (λ slices. AreSlices c.now slices.items) }
 {

@@ -11,7 +11,7 @@ mod spread;
 mod var_set;
 
 pub use division::slices;
-pub use laws::{slices_are_a_partition, slices_are_unique};
+pub use laws::{slices_are_a_partition, slices_are_unique, slices_exist};
 pub use slice::Slice;
 
 #[cfg(test)]

@@ -1,5 +1,5 @@
 use Rattle.std.proofs.lemmas.Slice.Eq.{slice_eq-Decides}
-use Rattle.atom_implies.proofs.TableLemmas.{Decides-same_term}
+use Rattle.atom_implies.proofs.ImpliedLemmas.{Decides-same_term}
 use Rattle.atom_implies.proofs.implication.same_terms.Goals as goal
 
 pub returns : goal.returns

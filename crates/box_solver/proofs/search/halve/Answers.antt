@@ -1,12 +1,18 @@
-use Rattle.std.proofs.Common.{◌≡◌, ◌+◌, ◌∷◌, length, to_z, of_z, FitsSigned, ap, ◌∙◌, rules, arith}
+use Rattle.std.proofs.Common.{◌≡◌, ◌+◌, [], ◌∷◌, length, to_z, of_z, FitsSigned, ap, subst, ◌∙◌, rules, arith}
 use Rattle.std.specs.Int.{w64}
 use Rattle.std.proofs.lemmas.Int.{to_z-of_z}
 use Rattle.std.proofs.lemmas.Result.{IfOk-weaker}
 use Rattle.refutation.specs.Bounds.{PlainBounds}
 use Rattle.refutation.specs.Box.{left_half, right_half}
+use Rattle.refutation.specs.declared.node.Node.TheVariants.{Split}
 use Rattle.refutation.specs.SearchOrder.{middle}
+use Rattle.lin_model.specs.Key.{key_width}
+use Rattle.box_solver.specs.Region.{Adds}
+use Rattle.box_solver.specs.Halving.{AddsHalving}
 use Rattle.box_solver.specs.Progress.{IsAt}
-use Rattle.box_solver.proofs.StateLemmas.{split-first, some_width, grows-pushed, at-split, widest-of}
+use Rattle.box_solver.proofs.RegionLemmas.{grows-pushed}
+use Rattle.box_solver.proofs.MiddleLemmas.{some_width, widest-of}
+use Rattle.box_solver.proofs.StateLemmas.{split-first, at-split}
 use Rattle.box_solver.proofs.search.halve.Goals as goal
 
 pub widest-var-requires-clause-some : goal.widest-var-requires-clause-some
@@ -31,3 +37,18 @@ returns-clause-at c = λ base splits h.
     let within_2 = c.bounds-2.ensures.bounds b.0 b.1 first in
     let is : cut ≡ middle b.0.bounds v = to_z-of_z w64 c.middle-cut.result fits ∙ c.middle-cut.ensures ∙ ap (λ (d : PlainBounds). middle d v) within_2 in
     IfOk-weaker c.split.result (λ _. c.split.new.self ≡ left_half b.0 v cut ∷ right_half b.0 v cut ∷ b.1) (λ _. IsAt c.args.key.now base c.push_node.new.self (splits + 1) c.split.new.self × (length c.split.new.self ≡ length c.args.walk.now + 1)) (λ _ halves. at-split c.args.key.now base c.args.region.now c.push_node.new.self splits c.args.walk.now c.split.new.self b.0 b.1 v cut first b.4 (widest-of c.bounds.result.now b.0.bounds c.width.result _ v c.widest-var.ensures within c.width.ensures.width) is halves (c.in_ok-push_node.ensures {u = tt}) h) (c.split.ensures b.0 b.1 first)
+
+pub returns-clause-halving : goal.returns-clause-halving
+returns-clause-halving c = λ box rest first.
+    let fits : FitsSigned w64 c.middle-cut.result = search rules in
+    let v = c.widest-var.result in
+    let cut = to_z w64 (of_z w64 c.middle-cut.result) in
+    let within = c.bounds.ensures.bounds box rest first in
+    let within_2 = c.bounds-2.ensures.bounds box rest first in
+    let is : cut ≡ middle box.bounds v = to_z-of_z w64 c.middle-cut.result fits ∙ c.middle-cut.ensures ∙ ap (λ (d : PlainBounds). middle d v) within_2 in
+    let halving : AddsHalving box.bounds (key_width c.args.key.now) c.args.region.now c.push_node.new.self = record {
+      var = v;
+      is_widest = widest-of c.bounds.result.now box.bounds c.width.result _ v c.widest-var.ensures within c.width.ensures.width;
+      adds = subst (λ n. Adds c.args.region.now c.push_node.new.self (Split v n ∷ []) []) is (c.in_ok-push_node.ensures {u = tt});
+    } in
+    IfOk-weaker c.split.result (λ _. c.split.new.self ≡ left_half box v cut ∷ right_half box v cut ∷ rest) (λ _. AddsHalving box.bounds (key_width c.args.key.now) c.args.region.now c.push_node.new.self) (λ _ _. halving) (c.split.ensures box rest first)

@@ -1,4 +1,4 @@
-use Rattle.box_solver.proofs.StateLemmas.{grows-pushed}
+use Rattle.box_solver.proofs.RegionLemmas.{grows-pushed}
 use Rattle.box_solver.proofs.search.push_leaf.Goals as goal
 
 pub returns-in_err-push_term-in-Term-clause-grows : goal.returns-in_err-push_term-in-Term-clause-grows

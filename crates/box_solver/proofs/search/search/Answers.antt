@@ -10,7 +10,8 @@ use Rattle.refutation.proofs.ReadingLemmas.{some_box, no_box}
 use Rattle.box_solver.specs.Progress.{IsAt}
 use Rattle.refutation.proofs.BoundedLemmas.{key-narrow}
 use Rattle.box_solver.proofs.CornerLemmas.{corner-length}
-use Rattle.box_solver.proofs.StateLemmas.{grows-pushed, adds-adds, at-start, first-fits, first-split, is_undecided}
+use Rattle.box_solver.proofs.RegionLemmas.{grows-pushed, adds-adds}
+use Rattle.box_solver.proofs.StateLemmas.{at-start, first-fits, first-split, is_undecided}
 use Rattle.box_solver.proofs.AnswerLemmas.{model-tree, refuting-tree, empty-tree, spent-tree}
 use Rattle.box_solver.proofs.search.search.Goals as goal
 
@@ -69,7 +70,7 @@ returns-then-holds-clause-found c =
       nodes = at.nodes;
       terms = at.terms;
       adds = at.adds;
-      answer = model-tree c.args.key.now c.args.region.now c.loop-alloc.region c.loop-alloc.splits c.args.budget c.loop-alloc.walk b.0 b.1 c.values_of.result.items at b.2 c.loop-alloc.invariant.few (same ∙ corner) (subst IsPoint (c.corner.view_is ∙ sym same) c.corner.invariant) (subst (KeyHolds c.args.key.now) (sym same) (c.holds.ensures.0 c.if-holds.true));
+      answer = model-tree c.args.key.now c.loop-alloc.splits c.args.budget at.nodes at.terms c.loop-alloc.walk b.0 b.1 c.values_of.result.items at.read b.2 c.loop-alloc.invariant.few (same ∙ corner) (subst IsPoint (c.corner.view_is ∙ sym same) c.corner.invariant) (subst (KeyHolds c.args.key.now) (sym same) (c.holds.ensures.0 c.if-holds.true));
     }
 
 pub returns-then-splits-budget-clause-found : goal.returns-then-splits-budget-clause-found
@@ -84,7 +85,7 @@ returns-then-splits-budget-clause-found c =
       nodes = at.nodes ++ replicate (length c.loop-alloc.walk) Left;
       terms = at.terms ++ [];
       adds = adds-adds c.args.region.now c.loop-alloc.region c.leave_open.new.region at.nodes (replicate (length c.loop-alloc.walk) Left) at.terms [] at.adds (c.in_ok-leave_open-in-None.ensures {u = tt}).left;
-      answer = spent-tree c.args.key.now c.args.region.now c.loop-alloc.region c.loop-alloc.splits c.args.budget c.loop-alloc.walk b.0 b.1 at b.2 c.if-splits-budget.true undecided;
+      answer = spent-tree c.args.key.now c.loop-alloc.splits c.args.budget at.nodes at.terms c.loop-alloc.walk b.0 b.1 at.read b.2 c.if-splits-budget.true undecided c.new-walk.ensures.key c.requires.boxed c.open_trees_are_below_room.ensures;
     }
 
 pub halve-requires : goal.halve-requires
@@ -111,5 +112,5 @@ returns-clause-found c =
       nodes = at.nodes;
       terms = at.terms;
       adds = at.adds;
-      answer = refuting-tree c.args.key.now c.args.region.now c.loop-alloc.region c.loop-alloc.splits c.args.budget c.loop-alloc.walk at none c.loop-alloc.invariant.few;
+      answer = refuting-tree c.args.key.now c.loop-alloc.splits c.args.budget at.nodes at.terms c.loop-alloc.walk at.read none c.loop-alloc.invariant.few;
     }

@@ -8,7 +8,7 @@ use Rattle.slicer.specs.Slices.{PlainSlice}
 use Rattle.canoniser.specs.Numbering.{order_of}
 use Rattle.canoniser.specs.Forms.{always, never, says, ComesTo}
 use Rattle.canoniser.specs.Keys.{IsSliceIn}
-use Rattle.canoniser.proofs.SliceLemmas.{IsWithin-slice}
+use Rattle.canoniser.proofs.SliceLemmas.{IsWithin-slice, HasNamed-slice}
 use Rattle.canoniser.proofs.TurnLemmas.{IsTurn, IsOrder-slice, AtomNamesBelow-turn, IsSaidBefore-none, IsSaidBefore-always, IsSaidBefore-says, IsFirstNever-turn, ArePossible-all}
 use Rattle.canoniser.proofs.said.said_of.Goals as goal
 use Rattle.canoniser.proofs.said.said_of.Goals.{in-Always, in-Says+in_ok-push-in-Says}
@@ -38,7 +38,8 @@ outcome_of-requires c =
     let q = c.args.c.now in
     let slice = c.args.s.now in
     let turn = turn_at q slice c.args.order.now c.atoms-j-items.result.now c.atoms-all.result.now c.loop-j.j-index c.index-all-j.result c.atoms-all.ensures.fits c.requires.slice c.requires.numbered c.atoms-j-items.ensures c.atoms-all.ensures.atoms c.loop-j-test.true c.index-all-j.is in
-    let ordered = IsOrder-slice q slice c.args.order.now turn.fits turn.slice turn.numbered in
+    let named = HasNamed-slice c.slices_are_a_partition.ensures q slice turn.fits.in_range turn.slice in
+    let ordered = IsOrder-slice q slice c.args.order.now turn.fits named turn.slice turn.numbered in
     record { few = ordered.few; in_range = ordered.in_range; named = AtomNamesBelow-turn q slice c.args.order.now c.loop-j.j-index c.index-all-j.result turn }
 
 pub loop-j-init : goal.loop-j-init

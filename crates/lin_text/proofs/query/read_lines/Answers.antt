@@ -2,7 +2,9 @@ use Rattle.std.proofs.Common.{ℕ, arith, subst, sym, ◌∙◌, ap}
 use Rattle.lin_model.specs.Conditions.{PlainCondition, Fits}
 use Rattle.lin_text.specs.Lines.{line_from}
 use Rattle.lin_text.specs.Queries.{Spells}
-use Rattle.lin_text.proofs.QueryReads.{ReadTo, read_none, in_range, spelled_at_end, at_line, at_word, at_error}
+use Rattle.lin_text.proofs.LinesRead.{ReadTo, read_none}
+use Rattle.lin_text.proofs.QueryEnds.{in_range, spelled_at_end}
+use Rattle.lin_text.proofs.QueryReads.{at_line, at_word, at_error}
 use Rattle.lin_text.proofs.query.read_lines.Goals as goal
 
 pub loop-at-init : goal.loop-at-init

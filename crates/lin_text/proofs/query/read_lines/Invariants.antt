@@ -1,6 +1,6 @@
 use Rattle.std.proofs.Common.{length, ◌-◌, ◌≤◌}
 use Rattle.lin_text.specs.Lines.{StartsLine}
-use Rattle.lin_text.proofs.QueryReads.{ReadTo}
+use Rattle.lin_text.proofs.LinesRead.{ReadTo}
 use Rattle.lin_text.proofs.query.read_lines.Given as goal
 
 -- the lines before the place were read

@@ -1,7 +1,7 @@
 use Rattle.std.proofs.Common.{◌≡◌, ◌++◌, take, flat_map}
 use Rattle.std.specs.Prelude.{All}
 use Rattle.lin_model.specs.Conditions.{IsCondition}
-use Rattle.lin_text.specs.Spelling.{executor_text}
+use Rattle.session_text.specs.Spelling.{executor_text}
 use Rattle.session_text.proofs.write.push_executors.Given as goal
 
 -- the executors so far are written, and their conditions within the limits

@@ -1,7 +1,7 @@
 use Rattle.std.proofs.Common.{◌≡◌, ◌++◌, take, flat_map}
 use Rattle.std.specs.Prelude.{All}
 use Rattle.lin_model.specs.Conditions.{IsCondition}
-use Rattle.lin_text.specs.Spelling.{query_text}
+use Rattle.session_text.specs.Spelling.{query_text}
 use Rattle.session_text.proofs.write.push_queries.Given as goal
 
 -- the queries so far are written, and they are within the limits

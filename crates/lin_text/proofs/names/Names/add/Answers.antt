@@ -2,8 +2,8 @@ use Rattle.std.proofs.Common.{◌≡◌, ◌++◌, ◌∷◌, [], ap, ◌∙◌,
 use Rattle.lin_text.proofs.NameLemmas.{list_any-none, map-insert}
 use Rattle.lin_text.proofs.names.Names.add.Goals as goal
 
-pub returns : goal.returns
-returns c =
+pub returns-clause-added : goal.returns-clause-added
+returns-clause-added c =
     let v = c.in_ok-from_slice.field-0 in
     let old = c.self.inside.set.keys in
     let bytes : Vec ℕ Global → List ℕ = λ k. k.items in

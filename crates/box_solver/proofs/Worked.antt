@@ -1,0 +1,83 @@
+-- Answers of the search on small worked values, as the checker computes them.
+use Rattle.std.proofs.Common.{◌≡◌, ℕ, zero, suc, ◌<◌, ◌≤◌, ◌^◌, ℤ, ◌≤ℤ◌, ◌<ℤ◌, pos, List, [], ◌∷◌, unsigned_abs, refl, arith}
+use Rattle.std.proofs.lemmas.Int.{ints}
+use Rattle.std.proofs.lemmas.List.Elements.{All-nil, All-cons}
+use Rattle.lin_model.specs.declared.op.Op.TheVariants.{Le, Ge}
+use Rattle.lin_model.specs.KeyAtom.{PlainKeyAtom, KeyAtomHolds}
+use Rattle.lin_model.specs.Key.{KeyHolds}
+use Rattle.lin_model.specs.Bounded.{variable}
+use Rattle.refutation.specs.declared.node.Node.TheVariants.{Empty, Left}
+use Rattle.refutation.specs.Bounds.{PlainBounds, variables, key_bounds, is_empty}
+use Rattle.refutation.specs.Reading.{reading, treated}
+use Rattle.refutation.specs.SearchOrder.{lowest_corner, spread}
+use Rattle.refutation.specs.SearchTree.{Searches, boxes_left, FirstLeftIsUndecided}
+use Rattle.box_solver.specs.declared.found.Found.TheVariants.{Model, Refuted, Spent}
+use Rattle.box_solver.specs.Answer.{IsAnswer}
+use Rattle.box_solver.specs.Halving.{IsWidest}
+
+-- `v0 <= hi`, `v0 >= lo`
+abbrev from_to : ℤ → ℤ → List PlainKeyAtom
+from_to lo hi = record { form = variable 0; op = Le; constant = hi } ∷ record { form = variable 0; op = Ge; constant = lo } ∷ []
+
+from_three-holds : KeyHolds (from_to (pos 3) (pos 9)) (pos 3 ∷ [])
+from_three-holds =
+    All-cons (λ a. KeyAtomHolds a (pos 3 ∷ [])) (record { form = variable 0; op = Le; constant = pos 9 }) (record { form = variable 0; op = Ge; constant = pos 3 } ∷ []) refl (All-cons (λ a. KeyAtomHolds a (pos 3 ∷ [])) (record { form = variable 0; op = Ge; constant = pos 3 }) [] refl (All-nil (λ a. KeyAtomHolds a (pos 3 ∷ []))))
+
+-- over 3 to 9 the lowest corner is the model, without any split
+check_model : IsAnswer (from_to (pos 3) (pos 9)) 1 (Model (record { items = pos 3 ∷ [] })) [] []
+unfolding Searches boxes_left lowest_corner key_bounds variables
+check_model = record {
+  one_each = refl;
+  small = All-cons (λ n. unsigned_abs n ≤ 2 ^ 32) (pos 3) [] (omega arith) (All-nil (λ n. unsigned_abs n ≤ 2 ^ 32));
+  holds = from_three-holds;
+  search = refl;
+  no_left = refl;
+  few = omega arith;
+  corner = refl;
+}
+
+-- another point that satisfies the key isn't the answer, nor is a value too many
+check_other_point : ¬ IsAnswer (from_to (pos 3) (pos 9)) 1 (Model (record { items = pos 4 ∷ [] })) [] []
+unfolding boxes_left lowest_corner key_bounds variables
+check_other_point h = let corner = h.corner in let same : pos 4 ≡ pos 3 = cc in absurd (omega (arith, ints, same))
+
+check_value_too_many : ¬ IsAnswer (from_to (pos 3) (pos 9)) 1 (Model (record { items = pos 3 ∷ pos 0 ∷ [] })) [] []
+check_value_too_many h = absurd (omega (arith, h.one_each))
+
+-- over 4 to 3 the box is empty
+check_refuted : IsAnswer (from_to (pos 4) (pos 3)) 1 Refuted (Empty ∷ []) []
+unfolding reading treated Searches is_empty key_bounds variables
+check_refuted = record { refutes = refl; search = (tt, refl); few = omega arith }
+
+-- which over 3 to 9 refutes nothing
+check_not_refuted : ¬ IsAnswer (from_to (pos 3) (pos 9)) 1 Refuted (Empty ∷ []) []
+unfolding reading treated is_empty key_bounds variables
+check_not_refuted h = let refutes = h.refutes in absurd (cc)
+
+-- a box whose corner is a model is never left open
+check_not_spent : ¬ IsAnswer (from_to (pos 3) (pos 9)) 0 Spent (Left ∷ []) []
+unfolding lowest_corner key_bounds variables FirstLeftIsUndecided
+check_not_spent h = h.open_tree.first_left.corner_fails (from_three-holds)
+
+-- of v0 from 0 to 4 and v1 and v2 from 0 to 9 the widest is v1
+abbrev three_variables : PlainBounds
+three_variables =
+    key_bounds (record { form = variable 0; op = Le; constant = pos 4 } ∷ record { form = variable 0; op = Ge; constant = pos 0 } ∷ record { form = variable 1; op = Le; constant = pos 9 } ∷ record { form = variable 1; op = Ge; constant = pos 0 } ∷ record { form = variable 2; op = Le; constant = pos 9 } ∷ record { form = variable 2; op = Ge; constant = pos 0 } ∷ [])
+
+check_widest : IsWidest three_variables 3 1
+unfolding key_bounds variables
+check_widest = record { below = omega arith; widest = widest; first = first }
+  where
+    widest : (w : ℕ) → w < 3 → spread three_variables w ≤ℤ pos 9
+    widest zero lt = omega (arith, ints)
+    widest (suc zero) lt = omega (arith, ints)
+    widest (suc (suc zero)) lt = omega (arith, ints)
+    widest (suc (suc (suc w))) lt = absurd (omega arith)
+
+    first : (w : ℕ) → w < 1 → spread three_variables w <ℤ pos 9
+    first zero lt = omega (arith, ints)
+    first (suc w) lt = absurd (omega arith)
+
+check_not_the_first : ¬ IsWidest three_variables 3 2
+unfolding key_bounds variables
+check_not_the_first h = let first : pos 9 <ℤ pos 9 = h.first 1 (omega arith) in omega (arith, ints, first)

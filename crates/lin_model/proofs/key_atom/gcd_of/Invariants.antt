@@ -1,6 +1,0 @@
-use Rattle.std.proofs.Common.{take}
-use Rattle.lin_model.specs.Form.{IsGcdOf}
-use Rattle.lin_model.proofs.key_atom.gcd_of.Given as goal
-
-abbrev pub invariant-loop-term : goal.invariant-loop-term
-invariant-loop-term l = IsGcdOf (take l.term-index l.terms) l.gcd

@@ -1,0 +1,12 @@
+use Rattle.pipeline.proofs.EachAskedLemmas.{answers_exist}
+use Rattle.pipeline.proofs.laws.answers_exist.Goals as goal
+
+pub returns : goal.returns
+returns c = answers_exist record {
+  slices = c.slices_exist.ensures;
+  parts = c.slices_are_a_partition.ensures;
+  canonicals = c.keys_exist.ensures;
+  answers = c.answers_exist.ensures;
+  boxed = c.bounded_keys_are_boxed.ensures;
+  no_point = c.refuted_keys_have_no_point.ensures;
+}

@@ -1,0 +1,5 @@
+use Rattle.pipeline.proofs.SufficientLemmas.{sufficient-decides}
+use Rattle.pipeline.proofs.laws.sufficient_budgets_decide.Goals as goal
+
+pub returns : goal.returns
+returns c = sufficient-decides
