@@ -22,7 +22,9 @@ for count in 1000 10000 100000; do
             print "end"
         }' > "$text"
     before=$(date +%s.%N)
-    ./green solve < "$text" > /dev/null || true
+    status=0
+    ./green solve < "$text" > /dev/null || status=$?
+    case $status in 0 | 3) ;; *) echo "the session was not answered: status $status" >&2; exit 1 ;; esac
     after=$(date +%s.%N)
     echo "$count $(wc -c < "$text") $before $after" |
         awk '{ printf "%d queries, %d bytes: %.2f seconds\n", $1, $2, $4 - $3 }'

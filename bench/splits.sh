@@ -9,6 +9,8 @@ session() {
 }
 printf 'green 1\nend\n' | ./green solve > /dev/null
 before=$(date +%s.%N)
-session | ./green solve --budget 100000 || true
+status=0
+session | ./green solve --budget 100000 || status=$?
+[ "$status" = 3 ] || exit 1
 after=$(date +%s.%N)
 echo "$before $after" | awk '{ printf "100000 splits in %.2f seconds: %d a second\n", $2 - $1, 100000 / ($2 - $1) }'

@@ -13,7 +13,7 @@ use Rattle.refutation.specs.Boxed.{IsBoxed}
 use Rattle.refutation.specs.Laws.{OpenTreesAreBelowRoom}
 use Rattle.refutation.specs.Reading.{Treated, treated, reading, fails_at}
 use Rattle.refutation.specs.SearchOrder.{lowest_corner}
-use Rattle.refutation.specs.SearchTree.{any_split, IsUndecided, Searches, IsOpenTree}
+use Rattle.refutation.specs.SearchTree.{halving, IsUndecided, Searches, IsOpenTree}
 use Rattle.box_solver.specs.Answer.{IsFirstCorner, IsModelTree, IsRefutingTree, IsSpentTree}
 use Rattle.box_solver.specs.Progress.{HasRead}
 use Rattle.box_solver.proofs.CornerLemmas.{corner-length}
@@ -46,11 +46,11 @@ empty-tree key budget empty = record {
   few = omega arith;
 }
 
-pub spent-tree : (key : List PlainKeyAtom) (splits budget : ℕ) (nodes : List Node) (terms : List LeafTerm) (boxes : List PlainBox) (box : PlainBox) (rest : List PlainBox) → HasRead key splits nodes terms boxes → boxes ≡ box ∷ rest → splits ≡ budget → IsUndecided any_split key box → IsKey key → IsBoxed key → OpenTreesAreBelowRoom → IsSpentTree key budget (nodes ++ replicate (length boxes) Left) (terms ++ [])
+pub spent-tree : (key : List PlainKeyAtom) (splits budget : ℕ) (nodes : List Node) (terms : List LeafTerm) (boxes : List PlainBox) (box : PlainBox) (rest : List PlainBox) → HasRead key splits nodes terms boxes → boxes ≡ box ∷ rest → splits ≡ budget → IsUndecided halving key box → IsKey key → IsBoxed key → OpenTreesAreBelowRoom → IsSpentTree key budget (nodes ++ replicate (length boxes) Left) (terms ++ [])
 spent-tree key splits budget nodes terms boxes box rest h first spent undecided is_key boxed law =
     let before : HasRead key splits nodes terms (box ∷ rest) = subst (HasRead key splits nodes terms) first h in
-    let open_tree : IsOpenTree any_split key budget (nodes ++ replicate (length boxes) Left) (terms ++ []) = subst (λ (bs : List PlainBox). IsOpenTree any_split key budget (nodes ++ replicate (length bs) Left) (terms ++ [])) (sym first) (subst (λ n. IsOpenTree any_split key n (nodes ++ replicate (length (box ∷ rest)) Left) (terms ++ [])) spent (read-open key splits nodes terms box rest before undecided)) in
+    let open_tree : IsOpenTree halving key budget (nodes ++ replicate (length boxes) Left) (terms ++ []) = subst (λ (bs : List PlainBox). IsOpenTree halving key budget (nodes ++ replicate (length bs) Left) (terms ++ [])) (sym first) (subst (λ n. IsOpenTree halving key n (nodes ++ replicate (length (box ∷ rest)) Left) (terms ++ [])) spent (read-open key splits nodes terms box rest before undecided)) in
     record {
       open_tree = open_tree;
-      below_room = law any_split key budget (nodes ++ replicate (length boxes) Left) (terms ++ []) is_key boxed open_tree;
+      below_room = law halving key budget (nodes ++ replicate (length boxes) Left) (terms ++ []) is_key boxed open_tree;
     }

@@ -3,7 +3,7 @@ use Rattle.std.proofs.Common.{◌≡◌, ⊎_elim, ℕ, zero, suc, ◌+◌, ◌-
 use Rattle.std.proofs.lemmas.Bool.{cases_lt, cases_Bool}
 use Rattle.std.proofs.lemmas.List.Elements.{All-head}
 use Rattle.lin_model.specs.KeyAtom.{PlainKeyAtom}
-use Rattle.lin_model.specs.Key.{IsKey, KeyHolds}
+use Rattle.lin_model.specs.Key.{IsKey, KeyHolds, key_width}
 use Rattle.refutation.specs.declared.leaf.LeafTerm.{LeafTerm}
 use Rattle.refutation.specs.declared.node.Node.{Node}
 use Rattle.refutation.specs.declared.node.Node.TheVariants.{Split, Empty, Left}
@@ -11,8 +11,8 @@ use Rattle.refutation.specs.Bounds.{key_bounds, is_empty}
 use Rattle.refutation.specs.Box.{PlainBox, root_box, left_half, right_half}
 use Rattle.refutation.specs.Boxed.{IsBoxed}
 use Rattle.refutation.specs.Laws.{OpenTreesAreBelowRoom}
-use Rattle.refutation.specs.SearchOrder.{lowest_corner}
-use Rattle.refutation.specs.SearchTree.{any_split, IsUndecided}
+use Rattle.refutation.specs.SearchOrder.{lowest_corner, middle}
+use Rattle.refutation.specs.SearchTree.{halving, IsUndecided}
 use Rattle.refutation.proofs.BoundedLemmas.{key-narrow}
 use Rattle.refutation.proofs.BoxedLemmas.{key_bounds-short}
 use Rattle.box_solver.specs.declared.found.Found.TheVariants.{Model, Refuted, Spent}
@@ -22,7 +22,8 @@ use Rattle.box_solver.specs.Progress.{IsSearchBox, HasRead}
 use Rattle.box_solver.proofs.AnswerLemmas.{empty-tree, model-tree, refuting-tree, spent-tree}
 use Rattle.box_solver.proofs.StepLemmas.{read-start, read-closed, read-split}
 use Rattle.box_solver.proofs.CornerLemmas.{corner-point}
-use Rattle.box_solver.proofs.DecisionLemmas.{has_cut, next_step}
+use Rattle.box_solver.proofs.MiddleLemmas.{some_widest, some_width}
+use Rattle.box_solver.proofs.DecisionLemmas.{next_step}
 
 -- what makes a key one that `solve` takes, with the law of open trees
 record IsSolvable (key : List PlainKeyAtom) : Type 0 where
@@ -48,7 +49,7 @@ modelled key budget splits nodes terms box rest h few holds = record {
   answer = model-tree key splits budget nodes terms (box ∷ rest) box rest (lowest_corner key box.bounds) h refl few refl (corner-point key box.bounds h.narrow (All-head (IsSearchBox key) box rest h.fit).short) holds;
 }
 
-spent : (key : List PlainKeyAtom) (budget splits : ℕ) (nodes : List Node) (terms : List LeafTerm) (box : PlainBox) (rest : List PlainBox) → IsSolvable key → HasRead key splits nodes terms (box ∷ rest) → splits ≡ budget → IsUndecided any_split key box → HasAnswer key budget
+spent : (key : List PlainKeyAtom) (budget splits : ℕ) (nodes : List Node) (terms : List LeafTerm) (box : PlainBox) (rest : List PlainBox) → IsSolvable key → HasRead key splits nodes terms (box ∷ rest) → splits ≡ budget → IsUndecided halving key box → HasAnswer key budget
 spent key budget splits nodes terms box rest solvable h used undecided = record {
   found = Spent;
   nodes = nodes ++ replicate (length (box ∷ rest)) Left;
@@ -63,8 +64,9 @@ answer_from n key budget splits nodes terms [] solvable h few left = refuted key
 answer_from zero key budget splits nodes terms (box ∷ rest) solvable h few left = absurd (omega arith)
 answer_from (suc n) key budget splits nodes terms (box ∷ rest) solvable h few left =
     let s = All-head (IsSearchBox key) box rest h.fit in
-    ⊎_elim (λ closed. answer_from n key budget splits (nodes ++ node_by closed.0 ∷ []) (terms ++ terms_by closed.0) rest solvable (read-closed key splits nodes terms box rest closed.0 h closed.1) few (omega (arith, left))) (λ open_. ⊎_elim (λ holds. modelled key budget splits nodes terms box rest h few holds) (λ undecided. ⊎_elim (λ less. let cut = has_cut key box h.narrow s undecided in
-    answer_from n key budget (splits + 1) (nodes ++ Split cut.var cut.lo ∷ []) (terms ++ []) (left_half box cut.var cut.lo ∷ right_half box cut.var cut.lo ∷ rest) solvable (read-split key splits nodes terms box rest cut.var cut.lo cut.hi cut.lo h undecided cut.of_key cut.is) (omega (arith, less)) (omega (arith, less, left))) (λ used. spent key budget splits nodes terms box rest solvable h (omega (arith, used, few)) undecided) (cases_lt splits budget)) open_) (next_step key box s)
+    ⊎_elim (λ closed. answer_from n key budget splits (nodes ++ node_by closed.0 ∷ []) (terms ++ terms_by closed.0) rest solvable (read-closed key splits nodes terms box rest closed.0 h closed.1) few (omega (arith, left))) (λ open_. ⊎_elim (λ holds. modelled key budget splits nodes terms box rest h few holds) (λ undecided. ⊎_elim (λ less. let widest = some_widest box.bounds (key_width key) (some_width key box h.narrow s undecided) in
+    let cut = middle box.bounds widest.0 in
+    answer_from n key budget (splits + 1) (nodes ++ Split widest.0 cut ∷ []) (terms ++ []) (left_half box widest.0 cut ∷ right_half box widest.0 cut ∷ rest) solvable (read-split key splits nodes terms box rest widest.0 cut h undecided widest.1 refl) (omega (arith, less)) (omega (arith, less, left))) (λ used. spent key budget splits nodes terms box rest solvable h (omega (arith, used, few)) undecided) (cases_lt splits budget)) open_) (next_step key box s)
 
 pub has_answer : (key : List PlainKeyAtom) (budget : ℕ) → IsKey key → IsBoxed key → OpenTreesAreBelowRoom → HasAnswer key budget
 has_answer key budget is boxed room =

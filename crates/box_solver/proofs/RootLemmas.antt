@@ -13,7 +13,7 @@ use Rattle.refutation.specs.Box.{root_box}
 use Rattle.refutation.specs.Leaf.{PlainLeaf, combo, fixed, empty, closes}
 use Rattle.refutation.specs.Reading.{Treated, treated, closed_by, reading, Refutes}
 use Rattle.refutation.specs.SearchOrder.{lowest_corner}
-use Rattle.refutation.specs.SearchTree.{any_split, Searches, boxes_left, FirstLeftIsUndecided, is_left, IsSearchTree}
+use Rattle.refutation.specs.SearchTree.{halving, Searches, boxes_left, FirstLeftIsUndecided, is_left, IsSearchTree}
 use Rattle.refutation.proofs.ClosedBoxes.{closes-none, IsKey-narrow}
 use Rattle.refutation.proofs.Points.{root_box-has}
 use Rattle.box_solver.specs.declared.found.Found.{Found}
@@ -35,15 +35,15 @@ leaf_closed true terms P h = refl
 leaf_closed false terms P h = absurd h
 
 -- a search from the root has no node, or begins with a Left
-none_or_left : (key : List PlainKeyAtom) (node : Node) (nodes : List Node) (terms : List LeafTerm) → IsKey key → CornerHolds key → IsSearchTree any_split key (node ∷ nodes) terms → node ≡ Left
+none_or_left : (key : List PlainKeyAtom) (node : Node) (nodes : List Node) (terms : List LeafTerm) → IsKey key → CornerHolds key → IsSearchTree halving key (node ∷ nodes) terms → node ≡ Left
 unfolding Searches treated
 none_or_left key (Split v cut) nodes terms is holds h = absurd (h.0.undecided.corner_fails holds)
 none_or_left key (NeSplit i) nodes terms is holds h = absurd (h.0.undecided.corner_fails holds)
 none_or_left key (Combo count) nodes terms is holds h =
-    let closed = leaf_closed (nat_le count (length terms) && closes key (root_box key) (combo (take count terms))) (drop count terms) (λ (r : Treated). Searches any_split key nodes r.terms (r.boxes ++ [])) h.1 in
+    let closed = leaf_closed (nat_le count (length terms) && closes key (root_box key) (combo (take count terms))) (drop count terms) (λ (r : Treated). Searches halving key nodes r.terms (r.boxes ++ [])) h.1 in
     absurd (not_closed key (combo (take count terms)) is holds (and_parts (nat_le count (length terms)) (closes key (root_box key) (combo (take count terms))) closed).1)
-none_or_left key (Fixed i) nodes terms is holds h = absurd (not_closed key (fixed i) is holds (leaf_closed (closes key (root_box key) (fixed i)) terms (λ (r : Treated). Searches any_split key nodes r.terms (r.boxes ++ [])) h.1))
-none_or_left key Empty nodes terms is holds h = absurd (not_closed key empty is holds (leaf_closed (closes key (root_box key) empty) terms (λ (r : Treated). Searches any_split key nodes r.terms (r.boxes ++ [])) h.1))
+none_or_left key (Fixed i) nodes terms is holds h = absurd (not_closed key (fixed i) is holds (leaf_closed (closes key (root_box key) (fixed i)) terms (λ (r : Treated). Searches halving key nodes r.terms (r.boxes ++ [])) h.1))
+none_or_left key Empty nodes terms is holds h = absurd (not_closed key empty is holds (leaf_closed (closes key (root_box key) empty) terms (λ (r : Treated). Searches halving key nodes r.terms (r.boxes ++ [])) h.1))
 none_or_left key Left nodes terms is holds h = refl
 
 pub corner-answers : (key : List PlainKeyAtom) (budget : ℕ) (found : Found) (nodes : List Node) (terms : List LeafTerm) → IsKey key → CornerHolds key → IsAnswer key budget found nodes terms → IsModelAt (lowest_corner key (key_bounds key)) found
@@ -64,5 +64,5 @@ corner-answers key budget Refuted (node ∷ nodes) terms is holds h =
     let refutes : Refutes key (Left ∷ nodes) terms = subst (λ (m : Node). Refutes key (m ∷ nodes) terms) (none_or_left key node nodes terms is holds h.search) h.refutes in absurd (cc)
 corner-answers key budget Spent [] terms is holds h = let left = h.open_tree.has_left in absurd (cc)
 corner-answers key budget Spent (node ∷ nodes) terms is holds h =
-    let first : FirstLeftIsUndecided any_split key (Left ∷ nodes) terms (root_box key ∷ []) = subst (λ (m : Node). FirstLeftIsUndecided any_split key (m ∷ nodes) terms (root_box key ∷ [])) (none_or_left key node nodes terms is holds h.open_tree.search) h.open_tree.first_left in
+    let first : FirstLeftIsUndecided halving key (Left ∷ nodes) terms (root_box key ∷ []) = subst (λ (m : Node). FirstLeftIsUndecided halving key (m ∷ nodes) terms (root_box key ∷ [])) (none_or_left key node nodes terms is holds h.open_tree.search) h.open_tree.first_left in
     first.corner_fails holds

@@ -9,18 +9,16 @@ use Rattle.refutation.specs.declared.node.Node.TheVariants.{Split}
 use Rattle.refutation.specs.Bounds.{key_bounds, is_empty}
 use Rattle.refutation.specs.Box.{PlainBox, root_box, left_half, right_half}
 use Rattle.refutation.specs.Boxed.{IsBoxed, HasShortSides}
-use Rattle.refutation.specs.SearchOrder.{lowest_corner, lower_or_zero, upper_or_zero, middle}
-use Rattle.refutation.specs.SearchTree.{any_split, IsUndecided}
-use Rattle.refutation.proofs.SplitLemmas.{IsCut}
+use Rattle.refutation.specs.SearchOrder.{lowest_corner, middle}
+use Rattle.refutation.specs.SearchTree.{halving, IsUndecided}
+use Rattle.refutation.specs.Halving.{IsWidest}
 use Rattle.box_solver.specs.Region.{PlainRegion, Adds}
 use Rattle.box_solver.specs.declared.one_atom.OneAtom.{OneAtom}
 use Rattle.box_solver.specs.OneAtom.{node_by, terms_by, ClosesBy, NoAtomCloses}
-use Rattle.box_solver.specs.Halving.{IsWidest}
 use Rattle.box_solver.specs.Progress.{IsSearchBox, HasRead, IsAt, FirstIsSplit}
 use Rattle.box_solver.proofs.OneAtomLemmas.{not_by_one}
 use Rattle.box_solver.proofs.RegionLemmas.{adds-adds}
 use Rattle.box_solver.proofs.StepLemmas.{read-start, read-closed, read-split}
-use Rattle.box_solver.proofs.MiddleLemmas.{middle-cuts}
 
 pub at-start : (key : List PlainKeyAtom) (region : PlainRegion) → key_width key ≤ 64 → IsBoxed key → HasShortSides (key_bounds key) → is_empty (key_bounds key) ≡ false → IsAt key region region 0 (root_box key ∷ [])
 at-start key region narrow boxed short full = record {
@@ -43,16 +41,14 @@ at-closed key base old new splits boxes boxes' box rest found first closes dropp
       next,
     )
 
-pub at-split : (key : List PlainKeyAtom) (base old new : PlainRegion) (splits : ℕ) (boxes boxes' : List PlainBox) (box : PlainBox) (rest : List PlainBox) (v : ℕ) (cut : ℤ) → boxes ≡ box ∷ rest → IsUndecided any_split key box → IsWidest box.bounds (key_width key) v → cut ≡ middle box.bounds v → boxes' ≡ left_half box v cut ∷ right_half box v cut ∷ rest → Adds old new (Split v cut ∷ []) [] → IsAt key base old splits boxes → IsAt key base new (splits + 1) boxes' × (length boxes' ≡ length boxes + 1)
+pub at-split : (key : List PlainKeyAtom) (base old new : PlainRegion) (splits : ℕ) (boxes boxes' : List PlainBox) (box : PlainBox) (rest : List PlainBox) (v : ℕ) (cut : ℤ) → boxes ≡ box ∷ rest → IsUndecided halving key box → IsWidest box.bounds (key_width key) v → cut ≡ middle box.bounds v → boxes' ≡ left_half box v cut ∷ right_half box v cut ∷ rest → Adds old new (Split v cut ∷ []) [] → IsAt key base old splits boxes → IsAt key base new (splits + 1) boxes' × (length boxes' ≡ length boxes + 1)
 at-split key base old new splits boxes boxes' box rest v cut first undecided w is halves adds h =
-    let before : HasRead key splits h.nodes h.terms (box ∷ rest) = subst (HasRead key splits h.nodes h.terms) first h.read in
-    let s = All-head (IsSearchBox key) box rest before.fit in
-    let cuts : IsCut box.bounds v (lower_or_zero box.bounds v) (upper_or_zero box.bounds v) cut = subst (IsCut box.bounds v (lower_or_zero box.bounds v) (upper_or_zero box.bounds v)) (sym is) (middle-cuts key box v h.read.narrow s undecided w) in (
+    let before : HasRead key splits h.nodes h.terms (box ∷ rest) = subst (HasRead key splits h.nodes h.terms) first h.read in (
       record {
         nodes = h.nodes ++ Split v cut ∷ [];
         terms = h.terms ++ [];
         adds = adds-adds base old new h.nodes (Split v cut ∷ []) h.terms [] h.adds adds;
-        read = subst (HasRead key (splits + 1) (h.nodes ++ Split v cut ∷ []) (h.terms ++ [])) (sym halves) (read-split key splits h.nodes h.terms box rest v (lower_or_zero box.bounds v) (upper_or_zero box.bounds v) cut before undecided w.below cuts);
+        read = subst (HasRead key (splits + 1) (h.nodes ++ Split v cut ∷ []) (h.terms ++ [])) (sym halves) (read-split key splits h.nodes h.terms box rest v cut before undecided w is);
       },
       omega (arith, ap length halves, ap length first),
     )
@@ -62,12 +58,12 @@ pub first-fits : (key : List PlainKeyAtom) (base region : PlainRegion) (splits :
 first-fits key base region splits boxes box rest first h =
     All-head (IsSearchBox key) box rest (subst (All (IsSearchBox key)) first h.read.fit)
 
-pub first-split : (key : List PlainKeyAtom) (boxes : List PlainBox) (box : PlainBox) (rest : List PlainBox) → boxes ≡ box ∷ rest → IsSearchBox key box → IsUndecided any_split key box → FirstIsSplit key boxes
+pub first-split : (key : List PlainKeyAtom) (boxes : List PlainBox) (box : PlainBox) (rest : List PlainBox) → boxes ≡ box ∷ rest → IsSearchBox key box → IsUndecided halving key box → FirstIsSplit key boxes
 first-split key boxes box rest first s undecided = subst (FirstIsSplit key) (sym first) (s, undecided)
 
-pub split-first : (key : List PlainKeyAtom) (boxes : List PlainBox) → FirstIsSplit key boxes → (box : PlainBox) × (rest : List PlainBox) × (boxes ≡ box ∷ rest) × IsSearchBox key box × IsUndecided any_split key box
+pub split-first : (key : List PlainKeyAtom) (boxes : List PlainBox) → FirstIsSplit key boxes → (box : PlainBox) × (rest : List PlainBox) × (boxes ≡ box ∷ rest) × IsSearchBox key box × IsUndecided halving key box
 split-first key [] h = absurd h
 split-first key (box ∷ boxes) h = (box, boxes, refl, h.0, h.1)
 
-pub is_undecided : (key : List PlainKeyAtom) (box : PlainBox) → IsSearchBox key box → NoAtomCloses key box → (KeyHolds key (lowest_corner key box.bounds) → ⊥) → IsUndecided any_split key box
+pub is_undecided : (key : List PlainKeyAtom) (box : PlainBox) → IsSearchBox key box → NoAtomCloses key box → (KeyHolds key (lowest_corner key box.bounds) → ⊥) → IsUndecided halving key box
 is_undecided key box s none fails = record { not_by_one = not_by_one key box s.no_sides s.not_empty none; not_by_two = tt; corner_fails = fails }

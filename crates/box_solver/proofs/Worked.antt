@@ -1,5 +1,5 @@
 -- Answers of the search on small worked values, as the checker computes them.
-use Rattle.std.proofs.Common.{◌≡◌, ℕ, zero, suc, ◌<◌, ◌≤◌, ◌^◌, ℤ, ◌≤ℤ◌, ◌<ℤ◌, pos, List, [], ◌∷◌, unsigned_abs, refl, arith}
+use Rattle.std.proofs.Common.{◌≡◌, ◌≤◌, ◌^◌, ℤ, pos, List, [], ◌∷◌, unsigned_abs, refl, arith}
 use Rattle.std.proofs.lemmas.Int.{ints}
 use Rattle.std.proofs.lemmas.List.Elements.{All-nil, All-cons}
 use Rattle.lin_model.specs.declared.op.Op.TheVariants.{Le, Ge}
@@ -7,13 +7,12 @@ use Rattle.lin_model.specs.KeyAtom.{PlainKeyAtom, KeyAtomHolds}
 use Rattle.lin_model.specs.Key.{KeyHolds}
 use Rattle.lin_model.specs.Bounded.{variable}
 use Rattle.refutation.specs.declared.node.Node.TheVariants.{Empty, Left}
-use Rattle.refutation.specs.Bounds.{PlainBounds, variables, key_bounds, is_empty}
+use Rattle.refutation.specs.Bounds.{variables, key_bounds, is_empty}
 use Rattle.refutation.specs.Reading.{reading, treated}
-use Rattle.refutation.specs.SearchOrder.{lowest_corner, spread}
+use Rattle.refutation.specs.SearchOrder.{lowest_corner}
 use Rattle.refutation.specs.SearchTree.{Searches, boxes_left, FirstLeftIsUndecided}
 use Rattle.box_solver.specs.declared.found.Found.TheVariants.{Model, Refuted, Spent}
 use Rattle.box_solver.specs.Answer.{IsAnswer}
-use Rattle.box_solver.specs.Halving.{IsWidest}
 
 -- `v0 <= hi`, `v0 >= lo`
 abbrev from_to : ℤ → ℤ → List PlainKeyAtom
@@ -58,26 +57,3 @@ check_not_refuted h = let refutes = h.refutes in absurd (cc)
 check_not_spent : ¬ IsAnswer (from_to (pos 3) (pos 9)) 0 Spent (Left ∷ []) []
 unfolding lowest_corner key_bounds variables FirstLeftIsUndecided
 check_not_spent h = h.open_tree.first_left.corner_fails (from_three-holds)
-
--- of v0 from 0 to 4 and v1 and v2 from 0 to 9 the widest is v1
-abbrev three_variables : PlainBounds
-three_variables =
-    key_bounds (record { form = variable 0; op = Le; constant = pos 4 } ∷ record { form = variable 0; op = Ge; constant = pos 0 } ∷ record { form = variable 1; op = Le; constant = pos 9 } ∷ record { form = variable 1; op = Ge; constant = pos 0 } ∷ record { form = variable 2; op = Le; constant = pos 9 } ∷ record { form = variable 2; op = Ge; constant = pos 0 } ∷ [])
-
-check_widest : IsWidest three_variables 3 1
-unfolding key_bounds variables
-check_widest = record { below = omega arith; widest = widest; first = first }
-  where
-    widest : (w : ℕ) → w < 3 → spread three_variables w ≤ℤ pos 9
-    widest zero lt = omega (arith, ints)
-    widest (suc zero) lt = omega (arith, ints)
-    widest (suc (suc zero)) lt = omega (arith, ints)
-    widest (suc (suc (suc w))) lt = absurd (omega arith)
-
-    first : (w : ℕ) → w < 1 → spread three_variables w <ℤ pos 9
-    first zero lt = omega (arith, ints)
-    first (suc w) lt = absurd (omega arith)
-
-check_not_the_first : ¬ IsWidest three_variables 3 2
-unfolding key_bounds variables
-check_not_the_first h = let first : pos 9 <ℤ pos 9 = h.first 1 (omega arith) in omega (arith, ints, first)

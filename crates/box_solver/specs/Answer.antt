@@ -8,7 +8,7 @@ use Rattle.refutation.specs.declared.node.Node.{Node}
 use Rattle.refutation.specs.Box.{PlainBox}
 use Rattle.refutation.specs.Reading.{Refutes}
 use Rattle.refutation.specs.SearchOrder.{lowest_corner}
-use Rattle.refutation.specs.SearchTree.{any_split, IsSearchTree, undecided_boxes, inner_count, is_left, IsOpenTree, room}
+use Rattle.refutation.specs.SearchTree.{halving, IsSearchTree, undecided_boxes, inner_count, is_left, IsOpenTree, room}
 use Rattle.box_solver.specs.declared.found.Found.{Found}
 use Rattle.box_solver.specs.declared.found.Found.TheVariants.{Model, Refuted, Spent}
 use Rattle.box_solver.specs.Region.{PlainRegion, Adds}
@@ -18,25 +18,25 @@ abbrev pub IsFirstCorner : List PlainKeyAtom → List PlainBox → List ℤ → 
 IsFirstCorner key [] point = ⊥
 IsFirstCorner key (box ∷ boxes) point = point ≡ lowest_corner key box.bounds
 
--- a model with its tree: the point satisfies the key, and is the lowest corner of the first box that a search tree of few splits leaves
+-- a model with its tree: the point satisfies the key, and is the lowest corner of the first box that a search by halving leaves after few splits
 pub record IsModelTree (key : List PlainKeyAtom) (budget : ℕ) (point : List ℤ) (nodes : List Node) (terms : List LeafTerm) : Type 0 where
   pub one_each : length point ≡ key_width key
   pub small : All (λ n. unsigned_abs n ≤ 2 ^ 32) point
   pub holds : KeyHolds key point
-  pub search : IsSearchTree any_split key nodes terms
+  pub search : IsSearchTree halving key nodes terms
   pub no_left : list_any is_left nodes ≡ false
   pub few : inner_count nodes ≤ budget
   pub corner : IsFirstCorner key (undecided_boxes key nodes terms) point
 
--- a tree that refutes the key, by a search of few splits
+-- a tree that refutes the key, by halving, in few splits
 pub record IsRefutingTree (key : List PlainKeyAtom) (budget : ℕ) (nodes : List Node) (terms : List LeafTerm) : Type 0 where
   pub refutes : Refutes key nodes terms
-  pub search : IsSearchTree any_split key nodes terms
+  pub search : IsSearchTree halving key nodes terms
   pub few : inner_count nodes ≤ budget
 
--- an open tree of just as many splits as the budget, which is below the room of the key
+-- an open tree by halving, of just as many splits as the budget, which is below the room of the key
 pub record IsSpentTree (key : List PlainKeyAtom) (budget : ℕ) (nodes : List Node) (terms : List LeafTerm) : Type 0 where
-  pub open_tree : IsOpenTree any_split key budget nodes terms
+  pub open_tree : IsOpenTree halving key budget nodes terms
   pub below_room : budget < room key
 
 -- what each answer says of the nodes and terms

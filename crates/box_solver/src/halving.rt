@@ -1,9 +1,9 @@
 //! Halving: the widest variable of a box, and the middle of its sides.
 
 ghost use Rattle.std.specs.Prelude.{◌≡◌, ◌<◌, ◌≤◌};
-ghost use Rattle.refutation.specs.Cut.{floor_div};
+ghost use Rattle.lin_model.specs.Quotients.{floor_div};
 ghost use Rattle.refutation.specs.SearchOrder.{spread, middle};
-ghost use Rattle.box_solver.specs.Halving.{IsWidest};
+ghost use Rattle.refutation.specs.Halving.{IsWidest};
 
 use refutation::Bounds;
 

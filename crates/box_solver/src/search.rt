@@ -2,11 +2,10 @@
 
 ghost use Rattle.std.specs.Prelude.{◌≡◌, ◌≤◌, ◌<◌, ◌+◌, [], ◌∷◌, ℕ, List, length, IfOk, OnOk, IfErr, OnErr, MatchResult, replicate};
 ghost use Rattle.lin_model.specs.KeyAtom.{PlainKeyAtom};
-ghost use Rattle.lin_model.specs.Key.{key_width};
 ghost use Rattle.refutation.specs.declared.node.Node.TheVariants.{Left};
 ghost use Rattle.refutation.specs.Box.{PlainBox};
 ghost use Rattle.refutation.specs.Boxed.{IsBoxed};
-ghost use Rattle.refutation.specs.SearchTree.{any_split, IsUndecided};
+ghost use Rattle.refutation.specs.SearchTree.{halving, IsUndecided};
 ghost use Rattle.box_solver.specs.Region.{PlainRegion, Adds, Grows};
 ghost use Rattle.box_solver.specs.OneAtom.{ClosesBy, node_by, terms_by};
 ghost use Rattle.box_solver.specs.Halving.{AddsHalving};
@@ -25,7 +24,7 @@ use std::alloc::Global;
 
 /// Searches for a point that satisfies the key, with at most `budget` splits, and appends the search's tree to the region.
 ///
-/// The first undecided box is closed where one atom closes it; its lowest corner, every variable at its lower side, is the model where it satisfies the key; and otherwise the box is halved at the middle of its widest variable. `Spent` comes where a box must be split and the budget is used up; then this box and all others that are left are marked `Left`. It never comes where the budget is at least the room of the key. `NoMemory` leaves the region as it was.
+/// The first undecided box is closed where one atom closes it; its lowest corner, every variable at its lower side, is the model where it satisfies the key; and otherwise the box is halved: its widest variable, the first among equals, is split at the middle of its sides, rounded down. `Spent` comes where a box must be split and the budget is used up; then this box and all others that are left are marked `Left`. It never comes where the budget is at least the room of the key. `NoMemory` leaves the region as it was.
 pub fn solve(
     alloc: Global,
     key: &Key,
@@ -112,7 +111,7 @@ fn halve(key: &Key, walk: &mut Walk, region: &mut TreeRegion) -> Result<(), NoMe
     ensures at { (base : PlainRegion) (splits : ℕ) → IsAt key.now base region.old splits walk.old
         → OnOk result (IsAt key.now base region.new (splits + 1) walk.new × (length walk.new ≡ length walk.old + 1)) }
     ensures halving { (box : PlainBox) (rest : List PlainBox) → walk.old ≡ box ∷ rest
-        → OnOk result (AddsHalving box.bounds (key_width key.now) region.old region.new) }
+        → OnOk result (AddsHalving key.now box.bounds region.old region.new) }
     ensures grows { Grows region.old region.new }
 {
     let var = widest(walk.bounds(), key.width());

@@ -5,7 +5,7 @@ use Rattle.std.proofs.Math.Nat.{mul-le-mul_left, mod-lt, div-add-mod, mul-div_ca
 use Rattle.std.proofs.lemmas.Bool.{cases_lt}
 use Rattle.std.proofs.lemmas.Int.{ints, by_lt_z}
 use borrow.Author.Differences.{up, down, sum_is_lem, product_is, neg_is, le_out}
-use Rattle.canoniser.specs.Forms.{floor_div, ceil_div}
+use Rattle.lin_model.specs.Quotients.{floor_div, ceil_div}
 
 pub distrib_right : (a b c : ℤ) → (a +ℤ b) *ℤ c ≡ (a *ℤ c) +ℤ (b *ℤ c)
 distrib_right a b c =

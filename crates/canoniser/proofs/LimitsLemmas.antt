@@ -18,7 +18,8 @@ use Rattle.lin_model.specs.Conditions.{AtomFits}
 use Rattle.lin_model.specs.Form.{IsGcdOf, DividesAll}
 use Rattle.lin_model.specs.KeyAtom.{PlainKeyAtom, BeginsPositive, HasSmallCoefficients, IsCanonicalForm}
 use Rattle.canoniser.specs.Gathered.{coefficient, constant, loose}
-use Rattle.canoniser.specs.Forms.{terms_from, gathered, begins_negative, turned, oriented, floor_div, divided}
+use Rattle.canoniser.specs.Forms.{terms_from, gathered, begins_negative, turned, oriented, divided}
+use Rattle.lin_model.specs.Quotients.{floor_div}
 use Rattle.canoniser.specs.Limits.{IsGathered, IsOriented}
 use Rattle.canoniser.proofs.GatheredLemmas.{factor_on-small, constants_of-small}
 use Rattle.canoniser.proofs.Arithmetic.{abs-positive, floor_div-exact, scale_up}

@@ -1,7 +1,7 @@
 -- What the atoms of a slice say, one after another.
-use Rattle.std.proofs.Common.{◌≡◌, ◌⊎◌, ℕ, ◌+◌, ◌<◌, ◌≤◌, List, [], ◌∷◌, ◌++◌, length, take, get_or, Option, Some, None, sym, ap, ◌∙◌, subst, inl, inr, arith}
+use Rattle.std.proofs.Common.{◌≡◌, ◌⊎◌, ℕ, ◌+◌, ◌<◌, List, [], ◌∷◌, ◌++◌, length, take, get_or, Option, Some, sym, ap, ◌∙◌, subst, inl, inr, arith}
 use Rattle.std.specs.List.{Any, AllPairs, Contains, slice_get, filter_map, cons_option}
-use Rattle.std.specs.Option.{IsSomeAnd, IfSome}
+use Rattle.std.specs.Option.{IsSomeAnd}
 use Rattle.std.proofs.lemmas.List.{take_more, length-take, get_or-take, get_or_default}
 use Rattle.std.proofs.lemmas.List.Elements.{Contains-get_or, All-push, All-weaker, Contains-append_left, Contains-push_cases, filter_map-append}
 use Rattle.std.proofs.lemmas.List.Quantifiers.{Any-push}
@@ -11,6 +11,7 @@ use Rattle.std.proofs.lemmas.Option.{slice_get_within, get_or_from_slice_get}
 use Rattle.lin_model.specs.Conditions.{PlainCondition, AtomNamesBelow, Fits}
 use Rattle.lin_model.specs.declared.atom.Atom.{Atom}
 use Rattle.lin_model.specs.KeyAtom.{PlainKeyAtom}
+use Rattle.lin_model.proofs.NamesLemmas.{AtomNamesBelow-larger}
 use Rattle.slicer.specs.Slices.{PlainSlice}
 use Rattle.canoniser.specs.Forms.{always, says, ComesTo}
 use Rattle.canoniser.specs.Solutions.{IsNever, IsNeverAt, IsFirstNever}
@@ -93,10 +94,6 @@ IsFirstNever-here c s i atom ascending lt is so_far never_holds =
       first = λ k has below. so_far k (Contains-before s.atoms i k ascending lt has below);
     }
 
-IfSome-below : (n m : ℕ) → n ≤ m → (o : Option ℕ) → IfSome o (λ v. v < n) → IfSome o (λ v. v < m)
-IfSome-below n m le None below = below
-IfSome-below n m le (Some v) below = omega arith
-
 -- what names only variables of a condition names only variables below 64
 pub AtomNamesBelow-64 : (c : PlainCondition) (j : ℕ) (atom : Atom) → Fits c.vars c.atoms → slice_get c.atoms j ≡ Some atom → AtomNamesBelow 64 atom
 AtomNamesBelow-64 c j atom fits is =
@@ -104,7 +101,4 @@ AtomNamesBelow-64 c j atom fits is =
     let n = length c.vars in
     let few = fits.few_vars in
     let here : AtomNamesBelow n atom = subst (AtomNamesBelow n) (get_or_from_slice_get c.atoms j atom atom is) (fits.in_range j atom within) in
-    record {
-      left = All-weaker (λ t. IfSome t.var (λ v. v < n)) (λ t. IfSome t.var (λ v. v < 64)) (λ t below. IfSome-below n 64 few t.var below) atom.left here.left;
-      right = All-weaker (λ t. IfSome t.var (λ v. v < n)) (λ t. IfSome t.var (λ v. v < 64)) (λ t below. IfSome-below n 64 few t.var below) atom.right here.right;
-    }
+    AtomNamesBelow-larger n 64 few atom here

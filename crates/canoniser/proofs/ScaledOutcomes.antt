@@ -18,7 +18,8 @@ use Rattle.lin_model.specs.declared.atom.Cmp.TheVariants.{Le}
 use Rattle.lin_model.specs.declared.form.FormTerm.{FormTerm}
 use Rattle.lin_model.specs.declared.op.Op.{Op}
 use Rattle.lin_model.specs.declared.op.Op.TheVariants.{Le as AtMost, Ge as AtLeast, Eq as Equals, Ne as Differs}
-use Rattle.canoniser.specs.Forms.{Outcome, always, never, says, gathered, oriented, floor_div, ceil_div, divides, divided, reduced, alone, IsOutcome, ComesTo}
+use Rattle.canoniser.specs.Forms.{Outcome, always, never, says, gathered, oriented, divides, divided, reduced, alone, IsOutcome, ComesTo}
+use Rattle.lin_model.specs.Quotients.{floor_div, ceil_div}
 use Rattle.canoniser.specs.Factors.{times}
 use Rattle.canoniser.proofs.Arithmetic.{times_assoc, floor_div-above, ceil_div-below}
 use Rattle.canoniser.proofs.LimitsLemmas.{gcd-positive, nonzero-oriented}

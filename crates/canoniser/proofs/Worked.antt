@@ -6,7 +6,7 @@ use Rattle.lin_model.specs.declared.atom.Cmp.{Cmp}
 use Rattle.lin_model.specs.declared.atom.Cmp.TheVariants.{Lt, Ne}
 use Rattle.lin_model.specs.declared.op.Op.TheVariants.{Le as AtMost, Ge as AtLeast, Eq as Equals, Ne as Differs}
 use Rattle.canoniser.specs.Numbering.{first_ones}
-use Rattle.canoniser.specs.Forms.{always, never, says, gathered, oriented, reduced, alone, floor_div, ceil_div}
+use Rattle.canoniser.specs.Forms.{always, never, says, gathered, oriented, reduced, alone}
 
 -- a factor on a variable, and a constant
 abbrev on : ℤ → ℕ → PlainTerm
@@ -26,11 +26,8 @@ half = refl
 half_up : reduced 2 (record { var = 0; coef = pos 2 } ∷ []) AtLeast (pos 7) ≡ says (record { form = record { var = 0; coef = pos 1 } ∷ []; op = AtLeast; constant = pos 4 })
 half_up = refl
 
-half_up_below : ceil_div (negsuc 6) 2 ≡ negsuc 2
+half_up_below : reduced 2 (record { var = 0; coef = pos 2 } ∷ []) AtLeast (negsuc 6) ≡ says (record { form = record { var = 0; coef = pos 1 } ∷ []; op = AtLeast; constant = negsuc 2 })
 half_up_below = refl
-
-half_down_below : floor_div (negsuc 6) 2 ≡ negsuc 3
-half_down_below = refl
 
 -- `2*x - 2*y = 1` has no solution, and `2*x - 2*y != 1` always holds
 no_half : reduced 2 (record { var = 0; coef = pos 2 } ∷ record { var = 1; coef = negsuc 1 } ∷ []) Equals (pos 1) ≡ never

@@ -1,12 +1,12 @@
 -- The canonical form of an atom.
 use Rattle.std.specs.Prelude.{◌≡◌, ℕ, suc, ℤ, pos, neg_ℤ, Bool, false, if◌then◌else◌, ◌==◌, ◌%◌, int_lt, unsigned_abs, List, [], ◌∷◌, map}
-use Rattle.std.specs.Int.{int_div_euclid}
 use Rattle.std.specs.Ordering.{int_eq}
 use Rattle.lin_model.specs.declared.form.FormTerm.{FormTerm}
 use Rattle.lin_model.specs.declared.atom.Atom.{Atom}
 use Rattle.lin_model.specs.declared.op.Op.{Op}
 use Rattle.lin_model.specs.declared.op.Op.TheVariants.{Le, Ge, Eq, Ne}
 use Rattle.lin_model.specs.Form.{IsGcdOf}
+use Rattle.lin_model.specs.Quotients.{floor_div, ceil_div}
 use Rattle.lin_model.specs.KeyAtom.{PlainKeyAtom}
 use Rattle.lin_model.specs.Test.{passes}
 use Rattle.canoniser.specs.Gathered.{coefficient, constant, op_of, loose}
@@ -46,19 +46,12 @@ begins_negative (t ∷ ts) = int_lt t.coef (pos 0)
 abbrev pub oriented : PlainKeyAtom → PlainKeyAtom
 oriented a = if begins_negative a.form then turned a else a
 
--- the quotient by a positive number, rounded down and rounded up
-abbrev pub floor_div : ℤ → ℕ → ℤ
-floor_div c g = int_div_euclid c (pos g)
-
-abbrev pub ceil_div : ℤ → ℕ → ℤ
-ceil_div c g = neg_ℤ (floor_div (neg_ℤ c) g)
-
 abbrev pub divides : ℕ → ℤ → Bool
 divides g c = unsigned_abs c % g == 0
 
 -- every coefficient divided by g
 abbrev pub divided : ℕ → List FormTerm → List FormTerm
-divided g form = map (λ t. record { var = t.var; coef = int_div_euclid t.coef (pos g) }) form
+divided g form = map (λ t. record { var = t.var; coef = floor_div t.coef g }) form
 
 -- an atom whose coefficients g divides, with both sides divided by it
 abbrev pub reduced : ℕ → List FormTerm → Op → ℤ → Outcome

@@ -3,7 +3,8 @@ ghost use Rattle.std.specs.Prelude.{◌≡◌, pos, ◌^◌, ◌<◌, ◌≤◌,
 ghost use Rattle.lin_model.specs.Conditions.{AtomNamesBelow};
 ghost use Rattle.lin_model.specs.Form.{IsGcdOf};
 ghost use Rattle.lin_model.specs.KeyAtom.{HasSmallCoefficients};
-ghost use Rattle.canoniser.specs.Forms.{says, floor_div, ceil_div, divides, divided, alone, ComesTo, IsReduced};
+ghost use Rattle.canoniser.specs.Forms.{says, divides, divided, alone, ComesTo, IsReduced};
+ghost use Rattle.lin_model.specs.Quotients.{floor_div, ceil_div};
 ghost use Rattle.canoniser.specs.Limits.{IsOriented};
 ghost use Rattle.canoniser.specs.Meaning.{meaning};
 

@@ -1,8 +1,11 @@
 //! The program `green`: the top call over the standard streams.
 #![tactic(auto)]
 
+ghost use Rattle.std.specs.Prelude.{◌≡◌, ◌≢◌, ◌⊎◌, IfErr};
+
 use green_cli::{Fault, green, tell};
 use outside::{NoDisk, NoGate, StdSink, StdSource};
+use std::io::ErrorKind;
 use std::process::ExitCode;
 use std::{env, io, rt};
 
@@ -26,10 +29,20 @@ fn main(rt: HostRuntime) -> ExitCode {
 }
 
 /// The words behind the program's own name. Words that are no text are wrong words.
-fn words(rt: &(impl rt::Env + AllocGlobal)) -> Result<Vec<String>, Fault> {
-    let args = env::args(rt).map_err(|error| match error.kind() {
-        io::ErrorKind::OutOfMemory => Fault::Memory,
-        _ => Fault::Usage,
-    })?;
+fn words(rt: &(impl rt::Env + AllocGlobal)) -> Result<Vec<String>, Fault>
+    ensures { IfErr result (λ fault. (fault ≡ Fault.Usage) ⊎ (fault ≡ Fault.Memory)) }
+{
+    let args = env::args(rt).map_err(|error| fault_of(error.kind()))?;
     Ok(args.skip(1).collect::<Vec<String>>(rt.alloc())?)
+}
+
+/// The fault where the words can't be had: want of memory, and else words that are no text.
+fn fault_of(kind: ErrorKind) -> Fault
+    ensures memory { kind ≡ ErrorKind.OutOfMemory → result ≡ Fault.Memory }
+    ensures usage { kind ≢ ErrorKind.OutOfMemory → result ≡ Fault.Usage }
+{
+    match kind {
+        ErrorKind::OutOfMemory => Fault::Memory,
+        _ => Fault::Usage,
+    }
 }

@@ -45,7 +45,7 @@ within_from_some P (x ∷ xs) (suc i) some = omega (arith, within_from_some P xs
 
 -- no slice has more than one part
 parts_within : (budget : ℕ) (q : PlainCondition) (classes : List PlainSlice) (verdict : Told) (parts : List PlainPart) → IsRightVerdict budget q classes verdict parts → length parts ≤ length classes
-parts_within budget q classes (Sat values) parts right = omega (arith, AllZip-long (Leaves budget q) classes parts right.left)
+parts_within budget q classes (Sat values) parts right = omega (arith, right.asked)
 parts_within budget q classes (UnsatAtom j) parts right = omega (arith, ap length right.none_asked)
 parts_within budget q classes (UnsatSlice s) parts right = omega (arith, right.asked, within_from_some _ classes s right.refuted)
 parts_within budget q classes (Unknown s) parts right = omega (arith, AllZip-long (Leaves budget q) classes parts right.left)

@@ -1,4 +1,5 @@
 pub mod Elements
+pub mod NamesLemmas
 pub mod TermLemmas
 pub mod FormLemmas
 pub mod OrderLemmas

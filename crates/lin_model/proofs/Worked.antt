@@ -17,6 +17,7 @@ use Rattle.lin_model.specs.Truth.{AtomHolds, InBounds, IsAssignment}
 use Rattle.lin_model.specs.Conditions.{Fits}
 use Rattle.lin_model.specs.Test.{passes}
 use Rattle.lin_model.specs.Form.{form_value}
+use Rattle.lin_model.specs.Quotients.{floor_div, ceil_div}
 use Rattle.lin_model.specs.KeyAtom.{PlainKeyAtom, IsCanonicalForm}
 use Rattle.lin_model.specs.AtomOrder.{compare_atoms}
 use Rattle.lin_model.specs.Key.{key_width}
@@ -141,6 +142,21 @@ check_constant = refl
 
 check_same_atom : compare_atoms (atom (variable 0) Eq (pos 3)) (atom (variable 0) Eq (pos 3)) ≡ Equal
 check_same_atom = refl
+
+-- ---- quotients
+
+-- a half of 7, and of -7
+check_floor : floor_div (pos 7) 2 ≡ pos 3
+check_floor = refl
+
+check_floor_below : floor_div (negsuc 6) 2 ≡ negsuc 3
+check_floor_below = refl
+
+check_ceil : ceil_div (pos 7) 2 ≡ pos 4
+check_ceil = refl
+
+check_ceil_below : ceil_div (negsuc 6) 2 ≡ negsuc 2
+check_ceil_below = refl
 
 -- ---- keys that bound their variables
 

@@ -4,6 +4,7 @@ pub mod Truth
 pub mod Conditions
 pub mod Test
 pub mod Form
+pub mod Quotients
 pub mod KeyAtom
 pub mod AtomOrder
 pub mod Key

@@ -17,7 +17,7 @@ pub enum Op {
 }
 
 impl Op {
-    /// The number that stands for this op in the order of atoms and in files.
+    /// The number that stands for this op in the order of atoms.
     pub fn code(self) -> u8
         ensures { result ≡ code_of self }
     {

@@ -2,7 +2,7 @@
 use Rattle.std.proofs.Common.{zero, suc, ◌≡◌, ◌≢◌, ℕ, ◌+◌, ◌<◌, ◌≤◌, Bool, true, false, cond, List, [], ◌∷◌, length, get_or, take, All, IsTrue, refl, sym, ap, subst, ◌∙◌, arith, lit<, inl, inr}
 use Rattle.std.specs.Prelude.{◌⊎◌, Contains, ◌&&◌}
 use Rattle.std.specs.List.{prefix_len}
-use Rattle.std.proofs.lemmas.Bool.{false≢true, eqb-true}
+use Rattle.std.proofs.lemmas.Bool.{false≢true, eqb-true, and_parts}
 use Rattle.std.proofs.lemmas.Bool.Decides.{eqb_tells, leb_tells}
 use Rattle.std.proofs.lemmas.List.{get_or-take, length-take}
 use Rattle.std.proofs.lemmas.List.Sums.{prefix_len-le-length, prefix_len_passes, prefix_len_stops}
@@ -20,14 +20,6 @@ start-is_name_byte b start = cc
 
 both_true : {a b : Bool} → a ≡ true → b ≡ true → (a && b) ≡ true
 both_true here behind = cc
-
-both-second : (a b : Bool) → (a && b) ≡ true → b ≡ true
-both-second true b e = e
-both-second false b e = absurd (false≢true e)
-
-both-first : (a b : Bool) → (a && b) ≡ true → a ≡ true
-both-first true b e = refl
-both-first false b e = absurd (false≢true e)
 
 equal_behind : (bs : List ℕ) (m : ℕ) → take m bs ≡ 61 ∷ [] → begins_equal bs ≡ true
 equal_behind [] m e = absurd (omega (arith, ap length e, length-take {A = ℕ} m []))
@@ -138,11 +130,11 @@ record TakesAt (bytes : List ℕ) (n : ℕ) : Type 0 where
   none : n ≡ 0 → (m : ℕ) → m ≤ length bytes → ¬ IsForm (take m bytes)
 
 symbol_at : (b : ℕ) (bs : List ℕ) → is_name_start b ≡ false → is_digit b ≡ false → (p q : Bool) → (begins_pair b && begins_equal bs) ≡ p → is_symbol b ≡ q → TakesAt (b ∷ bs) (cond p 2 (cond q 1 0))
-symbol_at b [] no_name no_digit true q pair one = absurd (false≢true (both-second (begins_pair b) false pair))
+symbol_at b [] no_name no_digit true q pair one = absurd (false≢true (and_parts (begins_pair b) false pair).1)
 symbol_at b (c ∷ cs) no_name no_digit true q pair one = record {
   longest = λ _. record {
     within = omega arith;
-    form = inr (inr (subst (λ (x : ℕ). Contains symbols (b ∷ x ∷ [])) (sym (eqb-true c 61 (both-second (begins_pair b) (begins_equal (c ∷ cs)) pair))) (two_bytes b (both-first (begins_pair b) (begins_equal (c ∷ cs)) pair))));
+    form = inr (inr (subst (λ (x : ℕ). Contains symbols (b ∷ x ∷ [])) (sym (eqb-true c 61 (and_parts (begins_pair b) (begins_equal (c ∷ cs)) pair).1)) (two_bytes b (and_parts (begins_pair b) (begins_equal (c ∷ cs)) pair).0)));
     longest = λ m more within form. elim (symbol_case b (c ∷ cs) m no_name no_digit within form) [ inl is ↦ omega (arith, more, is.0) | inr is ↦ omega (arith, more, is.0) ];
   };
   none = λ e. absurd (omega (arith, e));

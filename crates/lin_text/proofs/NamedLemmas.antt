@@ -1,7 +1,8 @@
 -- A token that is a name has the text of one.
 use Rattle.std.proofs.Common.{◌≡◌, ℕ, ◌+◌, ◌-◌, ◌<◌, ◌≤◌, zero, suc, Bool, true, false, cond, nat_lt, nat_eq, List, [], ◌∷◌, length, take, drop, get_or, refl, sym, ap, subst, ◌∙◌, arith}
-use Rattle.std.specs.Prelude.{◌||◌, ◌&&◌, IsTrue, slice_range, bytes_eq, codes}
+use Rattle.std.specs.Prelude.{◌&&◌, IsTrue, slice_range, bytes_eq, codes}
 use Rattle.std.specs.List.{prefix_len}
+use Rattle.std.proofs.lemmas.Bool.{or_parts}
 use Rattle.std.proofs.lemmas.List.Folds.{length-prefix_len}
 use borrow.Author.Tests.{ltb-false}
 use Rattle.lin_model.specs.Names.{IsName, is_name_start, is_name_byte, is_digit, is_reserved}
@@ -42,10 +43,6 @@ no_name_symbol false true c text e = cc
 no_name_symbol false false true text e = cc
 no_name_symbol false false false text e = cc
 
-or_false : (a b : Bool) → (a || b) ≡ false → a ≡ false
-or_false true b e = absurd (cc)
-or_false false b e = refl
-
 -- the text of a name
 name_is : (p : Bool) (b : ℕ) (bs : List ℕ) (text : List ℕ) → is_name_start b ≡ true → 1 + prefix_len is_name_byte bs ≤ 64 → text ≡ b ∷ take (prefix_len is_name_byte bs) bs → class_of (name_piece p text) ≡ Name → IsName text
 unfolding name_piece
@@ -53,7 +50,7 @@ name_is p b bs text starts short is e = record {
   short = rw is (omega (arith, length-prefix_len is_name_byte bs));
   starts = rw is starts;
   goes_on = rw is all;
-  free = or_false (is_reserved text) (p && is_claim_word text) (name_word (bytes_eq text (codes "var")) (is_word p text) text e);
+  free = (or_parts (is_reserved text) (p && is_claim_word text) (name_word (bytes_eq text (codes "var")) (is_word p text) text e)).0;
 } where
   all : (k : ℕ) (d : ℕ) → k < length (b ∷ take (prefix_len is_name_byte bs) bs) → IsTrue (is_name_byte (get_or (b ∷ take (prefix_len is_name_byte bs) bs) k d))
   all zero d lt = starts_byte b starts

@@ -7,6 +7,7 @@ use Rattle.std.proofs.lemmas.Slice.Eq.{bytes_eq-Decides}
 use Rattle.std.proofs.lemmas.Fmt.{decimal_by_steps}
 use Rattle.std.proofs.lemmas.List.Sums.{fold-append}
 use Rattle.std.proofs.lemmas.List.Elements.{All-nil, All-cons, All-push, All-weaker, All-head, All-tail}
+use Rattle.std.proofs.lemmas.Bool.{or_parts}
 use Rattle.std.proofs.lemmas.Bool.Decides.{nat_tests}
 use Rattle.lin_model.specs.Names.{IsName, is_name_start, is_name_byte, is_digit, is_reserved}
 use Rattle.lin_model.specs.declared.atom.Cmp.{Cmp}
@@ -53,10 +54,6 @@ digit-in_line b e = grind (arith, nat_tests)
 digit-name_start : (b : ℕ) → is_digit b ≡ true → is_name_start b ≡ false
 digit-name_start b e = grind (arith, nat_tests)
 
-left-false : (a b : Bool) → (a || b) ≡ false → a ≡ false
-left-false true b e = e
-left-false false b e = refl
-
 refuted : (text : List ℕ) → is_reserved text ≡ false → (b : Bool) → Decides b (text ≡ codes "var") → b ≡ false
 refuted text e true same = absurd (let no : true ≡ false = sym (ap is_reserved (same.0 refl)) ∙ e in cc)
 refuted text e false differs = refl
@@ -86,7 +83,7 @@ name-front b bs rest is stops =
     record {
       no_blank = name_start-blank b begins;
       counts = name_start-counts b begins;
-      no_feed = left-false (is_feed b) (b == 35) (name_start-counts b begins);
+      no_feed = (or_parts (is_feed b) (b == 35) (name_start-counts b begins)).0;
       within = prefix_len-all is_in_line (b ∷ bs) rest (All-weaker (λ b. IsTrue (is_name_byte b)) (λ b. IsTrue (is_in_line b)) name_byte-in_line (b ∷ bs) is.goes_on);
       long = ap (λ (x : Bool). cond x (1 + prefix_len is_name_byte (bs ++ rest)) (cond (is_digit b) (1 + prefix_len is_digit (bs ++ rest)) (symbol_length b (bs ++ rest)))) begins ∙ omega (arith, more);
       shape = λ at. ap (λ (k : TokenKind). token_of k at (length (b ∷ bs))) (name_kind b (length (b ∷ bs)) begins is.short);
@@ -113,7 +110,7 @@ number-front b bs rest digits stops =
     record {
       no_blank = digit-blank b begins;
       counts = digit-counts b begins;
-      no_feed = left-false (is_feed b) (b == 35) (digit-counts b begins);
+      no_feed = (or_parts (is_feed b) (b == 35) (digit-counts b begins)).0;
       within = prefix_len-all is_in_line (b ∷ bs) rest (All-weaker (λ d. IsTrue (is_digit d)) (λ d. IsTrue (is_in_line d)) digit-in_line (b ∷ bs) digits);
       long = ap (λ (x : Bool). cond x (1 + prefix_len is_name_byte (bs ++ rest)) (cond (is_digit b) (1 + prefix_len is_digit (bs ++ rest)) (symbol_length b (bs ++ rest)))) (digit-name_start b begins)
           ∙ (ap (λ (x : Bool). cond x (1 + prefix_len is_digit (bs ++ rest)) (symbol_length b (bs ++ rest))) begins ∙ omega (arith, more));

@@ -40,12 +40,15 @@ pub enum TextKind {
 /// A fault of a query's text, at a line and a column, both counted from 1. For `NoMemory` both are 0.
 #[derive(Clone, Copy, Debug)]
 pub struct TextFault {
+    /// The line, from 1.
     pub line: u64,
+    /// The byte of the line, from 1.
     pub column: u64,
+    /// What is wrong there.
     pub kind: TextKind,
 }
 
-/// What is wrong with the text of a session or a proof: the kinds of `TextKind`, and four more.
+/// What is wrong with the text of a session: the kinds of `TextKind`, and four more.
 #[derive(Clone, Copy, Debug, PartialEq, Eq, Error)]
 pub enum SessionKind {
     /// The first line isn't the header.
@@ -95,7 +98,10 @@ pub enum SessionKind {
 /// A fault of a session's text, at a line and a column, both counted from 1. For `NoMemory` both are 0.
 #[derive(Clone, Copy, Debug)]
 pub struct SessionFault {
+    /// The line of the whole input, from 1.
     pub line: u64,
+    /// The byte of the line, from 1.
     pub column: u64,
+    /// What is wrong there.
     pub kind: SessionKind,
 }

@@ -10,7 +10,9 @@ use std::alloc::{AllocError, AllocFailed};
 /// A fault, at a place among the bytes, counted from 0.
 #[derive(Clone, Copy, Debug)]
 pub struct Fault {
+    /// What is wrong there.
     pub kind: TextKind,
+    /// The place of the byte.
     pub at: usize,
 }
 

@@ -24,8 +24,11 @@ pub enum TokenKind {
 /// are the place where it stands.
 #[derive(Clone, Copy, Debug)]
 pub struct Token {
+    /// What kind of token it is.
     pub kind: TokenKind,
+    /// The place of its first byte, from 0.
     pub from: usize,
+    /// The place behind its last byte.
     pub to: usize,
 }
 

@@ -63,7 +63,7 @@ check_tears_at : TearsAt (Some (1 ∷ 2 ∷ [])) (Some (1 ∷ 9 ∷ [])) 1 2
 check_tears_at = (1 ∷ 9 ∷ [], record { before = refl; after = refl; no_shorter = lit≤ tt; no_longer = lit≤ tt }, refl)
 
 check_synced : Synced (Some (1 ∷ [])) (λ image. image ≡ 1 ∷ [])
-check_synced image left = left
+check_synced image = (λ left. left, λ same. same)
 
 check_sink_faults : sink_faults (record { taken = []; failing = []; calls = 7; listed = 2; starved = 1 }) ≡ 3
 check_sink_faults = refl

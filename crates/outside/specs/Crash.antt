@@ -34,7 +34,12 @@ TearsAt (Some file) new at n = (torn : List ℕ) × Torn at n file torn × (new 
 
 -- nothing is pending: a crash leaves what a read gives, where that is told, and nothing else
 abbrev pub Synced : Option (List ℕ) → (List ℕ → Type 0) → Type 0
-Synced content may_leave = IfSome content (λ file. (image : List ℕ) → may_leave image → image ≡ file)
+Synced content may_leave = IfSome content (λ file. (image : List ℕ) → may_leave image ↔ (image ≡ file))
+
+-- a crash leaves something
+pub record LeavesSome (may_leave : List ℕ → Type 0) : Type 0 where
+  pub image : List ℕ
+  pub left : may_leave image
 
 -- a crash may leave the same images as before
 abbrev pub SameImages : (List ℕ → Type 0) → (List ℕ → Type 0) → Type 0

@@ -1,7 +1,7 @@
 //! One file on a disk, and what a crash may leave of it.
 ghost use Rattle.std.specs.Prelude.{◌≡◌, ◌≤◌, ℕ, Bool, List, Option, Some, length, IsTrue, IsSome, IfOk, OnOk, OnErr};
 ghost use Rattle.outside.specs.Counts.{HasCause};
-ghost use Rattle.outside.specs.Crash.{IsWithin, IsLengthOf, ReadsAt, WritesAt, TearsAt, Torn, Synced, SameImages, SamePast, Follows, Elapses};
+ghost use Rattle.outside.specs.Crash.{IsWithin, IsLengthOf, ReadsAt, WritesAt, TearsAt, Torn, Synced, SameImages, SamePast, Follows, Elapses, LeavesSome};
 
 use crate::Failed;
 
@@ -119,6 +119,9 @@ pub trait Disk {
 
     /// It tells its content too, so that a sync promises something.
     ghost rules_tell_content: { (disk : Self) → IsTrue (keeps_rules disk) → IsSome (content disk) };
+
+    /// A crash leaves some image, so that what is promised of every image is promised of one.
+    ghost leaves_some: { (disk : Self) → IsTrue (keeps_rules disk) → LeavesSome (may_leave disk) };
 
     /// This moment is one of those since an earlier one.
     ghost counts_now: { (disk : Self) (t : ℕ) (image : List ℕ) → IsTrue (keeps_rules disk) → t ≤ moment disk → may_leave disk image → left_since disk t image };

@@ -1,4 +1,4 @@
-//! The world as traits: sources, sinks, disks and gates, each with a count of its faults.
+//! The world as traits: sources, sinks and disks, each with a count of its faults, and gates.
 #![tactic(auto)]
 
 mod disk;

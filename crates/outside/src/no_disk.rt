@@ -1,5 +1,5 @@
 //! No disk at all.
-ghost use Rattle.std.specs.Prelude.{◌≡◌, ℕ, false, ⊤, None, IsErr};
+ghost use Rattle.std.specs.Prelude.{◌≡◌, ℕ, false, ⊤, [], None, IsErr};
 ghost use Rattle.std.proofs.Common.{rules};
 ghost use Rattle.outside.specs.Counts.{raised, HasCause};
 
@@ -56,6 +56,8 @@ impl Disk for NoDisk {
     ghost rules_are_told = { λ _ told. told };
 
     ghost rules_tell_content = { Prim.search rules };
+
+    ghost leaves_some = { λ _ _. record { image = []; left = tt } };
 
     ghost counts_now = { Prim.search rules };
 

@@ -1,14 +1,14 @@
 -- Asking one more slice.
 use Rattle.std.proofs.Common.{◌≡◌, ℕ, zero, suc, ◌<◌, ◌≤◌, ℤ, Option, Some, None, MatchOption, IsSomeAnd, List, [], ◌∷◌, ◌++◌, length, get_or, slice_get, take, drop, Vec, Global, arith, refl, sym, subst, ap, ◌∙◌}
-use Rattle.std.specs.List.{All, AllPairs, Contains, slice_index}
+use Rattle.std.specs.List.{All, AllPairs, AllZip, Contains, slice_index}
 use Rattle.std.specs.Option.{unwrap_or}
 use Rattle.std.specs.Vec.{with_items}
 use Rattle.std.proofs.Math.Seq.{take-append_seam}
 use Rattle.std.proofs.lemmas.List.{get_or_default}
-use Rattle.std.proofs.lemmas.List.Elements.{All-push}
+use Rattle.std.proofs.lemmas.List.Elements.{All-nil, All-cons, All-push}
 use Rattle.lin_model.specs.Terms.{value_at}
 use Rattle.lin_model.specs.Conditions.{PlainCondition, Fits}
-use Rattle.lin_model.specs.Key.{KeyHolds, key_width}
+use Rattle.lin_model.specs.Key.{key_width}
 use Rattle.slicer.specs.Slices.{PlainSlice, AreClasses, least as least_of}
 use Rattle.refutation.specs.Tree.{PlainTree}
 use Rattle.canoniser.specs.Solutions.{point_of}
@@ -18,7 +18,7 @@ use Rattle.pipeline.specs.declared.answer.PlainPart.TheVariants.{Solved, Open}
 use Rattle.pipeline.specs.Answers.{IsModelOf, IsSpentOn, IsOpen, IsFirstOpen}
 use Rattle.pipeline.specs.Asking.{KeyLeaves, IsMet, IsAsked}
 use Rattle.pipeline.proofs.KeyedLemmas.{zip_push}
-use Rattle.pipeline.proofs.SliceLemmas.{zip_length}
+use Rattle.std.proofs.lemmas.Slice.Zip.{AllZip-long}
 
 -- ---- look-ups behind a list
 
@@ -72,34 +72,55 @@ given_point (v ∷ back) values (n ∷ point) long placed = rw (placed 0 (omega 
 abbrev pub AreOthers : List SliceKey → SliceKey → Type 0
 AreOthers asked k = All (λ j. (v : ℕ) → Contains j.back v → Contains k.back v → ⊥) asked
 
+-- what was left of a slice stays, where another slice is given values
+part_stays : (budget : ℕ) (old new : List ℤ) (j k : SliceKey) (part : PlainPart) → ((v : ℕ) → Contains j.back v → Contains k.back v → ⊥) → ((w : ℕ) → (Contains k.back w → ⊥) → value_at new w ≡ value_at old w) → KeyLeaves budget old j part → KeyLeaves budget new j part
+part_stays budget old new j k Solved apart kept met =
+    subst (IsModelOf budget j.key) (sym (kept_point j.back old new (λ n d lt. kept (get_or j.back n d) (λ has. apart (get_or j.back n d) (n, lt, get_or_default j.back n (get_or j.back n d) d lt) has)))) met
+part_stays budget old new j k (Open tree) apart kept spent = spent
+
+-- the same of each slice so far
+leaves_stay : (budget : ℕ) (old new : List ℤ) (asked : List SliceKey) (parts : List PlainPart) (k : SliceKey) → AreOthers asked k → ((w : ℕ) → (Contains k.back w → ⊥) → value_at new w ≡ value_at old w) → AllZip (KeyLeaves budget old) asked parts → AllZip (KeyLeaves budget new) asked parts
+leaves_stay budget old new [] [] k others kept leaves = tt
+leaves_stay budget old new [] (part ∷ parts) k others kept leaves = absurd leaves
+leaves_stay budget old new (j ∷ asked) [] k others kept leaves = absurd leaves
+leaves_stay budget old new (j ∷ asked) (part ∷ parts) k others kept leaves =
+    (part_stays budget old new j k part (others 0 j (omega arith)) kept leaves.0, leaves_stay budget old new asked parts k (λ i d lt. others (suc i) d (omega (arith, lt))) kept leaves.1)
+
+-- before the first slice nothing is left
+pub none_left : (budget : ℕ) (values : List ℤ) (parts : List PlainPart) → parts ≡ [] → AllZip (KeyLeaves budget values) [] parts
+none_left budget values parts none = subst (AllZip (KeyLeaves budget values) []) (sym none) tt
+
+-- where each slice was solved, the values meet each
+pub all_met : (budget : ℕ) (values : List ℤ) (asked : List SliceKey) (parts : List PlainPart) → AllZip (KeyLeaves budget values) asked parts → All (λ part. part ≡ Solved) parts → All (IsMet budget values) asked
+all_met budget values [] parts leaves solved = All-nil (IsMet budget values)
+all_met budget values (k ∷ asked) [] leaves solved = absurd leaves
+all_met budget values (k ∷ asked) (Open tree ∷ parts) leaves solved = let open_one = solved 0 Solved (omega arith) in absurd (cc)
+all_met budget values (k ∷ asked) (Solved ∷ parts) leaves solved =
+    All-cons (IsMet budget values) k asked leaves.0 (all_met budget values asked parts leaves.1 (λ i d lt. solved (suc i) d (omega (arith, lt))))
+
 pub ask_model : (budget : ℕ) (q : PlainCondition) (asked : List SliceKey) (parts : List PlainPart) (least : Option ℕ) (old new : List ℤ) (k : SliceKey) (point : List ℤ) → IsAsked budget q asked parts least old → AreOthers asked k → IsModelOf budget k.key point → key_width k.key ≡ length k.back → length new ≡ length old → ((v : ℕ) → v < length k.back → value_at new (slice_index k.back v) ≡ value_at point v) → ((w : ℕ) → (Contains k.back w → ⊥) → value_at new w ≡ value_at old w) → IsAsked budget q (asked ++ k ∷ []) (parts ++ Solved ∷ []) least new
 ask_model budget q asked parts least old new k point h others model width same placed kept = record {
-  leaves = zip_push (λ (j : SliceKey) (part : PlainPart). KeyLeaves budget j.key part) asked parts k Solved h.leaves (point, model);
+  leaves = zip_push (KeyLeaves budget new) asked parts k Solved (leaves_stay budget old new asked parts k others kept h.leaves) here;
   first = first least h.first;
   long = same ∙ h.long;
-  met = λ none. All-push (IsMet new) asked k (λ i d lt. still i d lt (h.met none i d lt)) here;
 }
   where
     first : (o : Option ℕ) → MatchOption o (All (λ part. part ≡ Solved) parts) (IsFirstOpen parts) → MatchOption o (All (λ part. part ≡ Solved) (parts ++ Solved ∷ [])) (IsFirstOpen (parts ++ Solved ∷ []))
     first None all = All-push (λ part. part ≡ Solved) parts Solved all refl
     first (Some s) at = first_stays parts Solved s at
 
-    here : IsMet new k
-    here = subst (KeyHolds k.key) (sym (given_point k.back new point (model.tree.one_each ∙ width) placed)) model.tree.holds
-
-    still : (i : ℕ) (d : SliceKey) → i < length asked → IsMet old (get_or asked i d) → IsMet new (get_or asked i d)
-    still i d lt met = subst (KeyHolds (get_or asked i d).key) (sym (kept_point (get_or asked i d).back old new (λ n e l. kept (get_or (get_or asked i d).back n e) (λ has. others i d lt (get_or (get_or asked i d).back n e) (n, l, get_or_default (get_or asked i d).back n (get_or (get_or asked i d).back n e) e l) has)))) met
+    here : IsMet budget new k
+    here = subst (IsModelOf budget k.key) (sym (given_point k.back new point (model.tree.one_each ∙ width) placed)) model
 
 pub ask_open : (budget : ℕ) (q : PlainCondition) (asked : List SliceKey) (parts : List PlainPart) (least : Option ℕ) (values : List ℤ) (k : SliceKey) (tree : PlainTree) (s : ℕ) → IsAsked budget q asked parts least values → IsSpentOn budget k.key tree → s ≡ length asked → IsAsked budget q (asked ++ k ∷ []) (parts ++ Open tree ∷ []) (Some (unwrap_or least s)) values
 ask_open budget q asked parts least values k tree s h spent is = record {
-  leaves = zip_push (λ (j : SliceKey) (part : PlainPart). KeyLeaves budget j.key part) asked parts k (Open tree) h.leaves spent;
+  leaves = zip_push (KeyLeaves budget values) asked parts k (Open tree) h.leaves spent;
   first = first least h.first;
   long = h.long;
-  met = λ none. absurd (cc);
 }
   where
     first : (o : Option ℕ) → MatchOption o (All (λ part. part ≡ Solved) parts) (IsFirstOpen parts) → IsFirstOpen (parts ++ Open tree ∷ []) (unwrap_or o s)
-    first None all = first_comes parts tree s (is ∙ zip_length (λ (j : SliceKey) (part : PlainPart). KeyLeaves budget j.key part) asked parts h.leaves) all
+    first None all = first_comes parts tree s (is ∙ sym (AllZip-long (KeyLeaves budget values) asked parts h.leaves)) all
     first (Some t) at = first_stays parts (Open tree) t at
 
 -- ---- the slices of a query

@@ -18,7 +18,7 @@ use Rattle.pipeline.specs.declared.answer.PlainPart.{PlainPart}
 use Rattle.pipeline.specs.declared.answer.PlainPart.TheVariants.{Solved, Open}
 use Rattle.pipeline.specs.declared.answer.Told.TheVariants.{UnsatSlice}
 use Rattle.pipeline.specs.Answers.{IsModelOf, IsRefuted, IsSpentOn}
-use Rattle.pipeline.specs.Asking.{IsAsked, IsMet}
+use Rattle.pipeline.specs.Asking.{IsAsked}
 use Rattle.pipeline.specs.Keyed.{IsKeyed, AreKeyed}
 use Rattle.pipeline.specs.Laws.{HasRightAnswer}
 use Rattle.pipeline.proofs.AskLemmas.{AreOthers, ask_model, ask_open}
@@ -42,7 +42,7 @@ none_asked budget q keys =
       parts = [];
       least = None;
       values = values;
-      asked = record { leaves = tt; first = All-nil (λ part. part ≡ Solved); long = length-replicate (length q.vars) (pos 0); met = λ none. All-nil (IsMet values) };
+      asked = record { leaves = tt; first = All-nil (λ part. part ≡ Solved); long = length-replicate (length q.vars) (pos 0) };
     }
 
 asked_more : (budget : ℕ) (q : PlainCondition) (keys : List SliceKey) (i : ℕ) (k : SliceKey) (parts : List PlainPart) (least : Option ℕ) (values : List ℤ) → take (i + 1) keys ≡ take i keys ++ k ∷ [] → IsAsked budget q (take i keys ++ k ∷ []) parts least values → AskedBelow budget q keys (i + 1)

@@ -2,12 +2,14 @@
 use Rattle.std.proofs.Common.{◌≡◌, ◌⊎◌, inl, inr, ⊎_elim, ℕ, zero, suc, ◌<◌, ℤ, Option, Some, None, IsSomeAnd, List, [], ◌∷◌, ◌++◌, length, get_or, slice_get, take, arith, refl, sym, subst, ◌∙◌}
 use Rattle.std.specs.List.{All, Any, AllPairs, Contains, filter_map, cons_option}
 use Rattle.std.proofs.lemmas.List.{get_or_default, get_or-take, length-take}
+use Rattle.std.proofs.lemmas.Slice.Zip.{AllZip-long}
 use Rattle.std.proofs.lemmas.Option.{slice_get_within, get_or_from_slice_get}
 use Rattle.std.proofs.lemmas.List.Elements.{All-cons}
 use Rattle.lin_model.specs.Terms.{value_at, PlainVar}
 use Rattle.lin_model.specs.Truth.{AtomHolds, IsAssignment, InBounds}
 use Rattle.lin_model.specs.Conditions.{PlainCondition, Fits, Holds, IsSatisfiable}
 use Rattle.lin_model.specs.declared.atom.Atom.{Atom}
+use Rattle.lin_model.specs.Key.{KeyHolds}
 use Rattle.slicer.specs.Slices.{PlainSlice, IsFront}
 use Rattle.slicer.specs.Names.{NamesNothingAt}
 use Rattle.slicer.specs.Laws.{SlicesPartition, AreApart}
@@ -15,9 +17,8 @@ use Rattle.canoniser.specs.Solutions.{point_of}
 use Rattle.refutation.specs.Reading.{HasNoPoint}
 use Rattle.pipeline.specs.declared.slice_keys.SliceKey.{SliceKey}
 use Rattle.pipeline.specs.Keyed.{HoldsAt, IsKeyed, AreKeyed}
-use Rattle.pipeline.specs.Asking.{IsMet}
 use Rattle.pipeline.proofs.AskLemmas.{AreOthers}
-use Rattle.pipeline.proofs.SliceLemmas.{zip_at, zip_length, atom_holds_at}
+use Rattle.pipeline.proofs.SliceLemmas.{zip_at, atom_holds_at}
 
 -- ---- lists
 
@@ -47,7 +48,7 @@ all_picked {X} P xs (j ∷ js) all = one_picked P xs j (filter_map (λ i. slice_
 -- ---- keys of slices
 
 keyed_at : (q : PlainCondition) (keys : List SliceKey) (h : AreKeyed q keys) (i : ℕ) (s : PlainSlice) (k : SliceKey) → i < length keys → IsKeyed q (get_or h.are.classes i s) (get_or keys i k)
-keyed_at q keys h i s k lt = zip_at (IsKeyed q) h.are.classes keys i s k h.each (omega (arith, lt, zip_length (IsKeyed q) h.are.classes keys h.each))
+keyed_at q keys h i s k lt = zip_at (IsKeyed q) h.are.classes keys i s k h.each (omega (arith, lt, AllZip-long (IsKeyed q) h.are.classes keys h.each))
 
 abbrev pub no_slice : PlainSlice
 no_slice = record { vars = []; atoms = [] }
@@ -59,7 +60,7 @@ keyed q keys h i k lt is = subst (IsKeyed q (get_or h.are.classes i no_slice)) (
 -- the variables of a slice are declared
 pub declared : (q : PlainCondition) (keys : List SliceKey) (h : AreKeyed q keys) (i : ℕ) (k : SliceKey) (v : ℕ) → i < length keys → k ≡ get_or keys i k → Contains k.back v → v < length q.vars
 declared q keys h i k v lt is has =
-    (((h.are.linked.each i no_slice (omega (arith, lt, zip_length (IsKeyed q) h.are.classes keys h.each))).vars.just v).0 (((keyed q keys h i k lt is).vars v).0 has)).0
+    (((h.are.linked.each i no_slice (omega (arith, lt, AllZip-long (IsKeyed q) h.are.classes keys h.each))).vars.just v).0 (((keyed q keys h i k lt is).vars v).0 has)).0
 
 pub declared_at : (q : PlainCondition) (keys : List SliceKey) (h : AreKeyed q keys) (i : ℕ) (k : SliceKey) → i < length keys → k ≡ get_or keys i k → (n d : ℕ) → n < length k.back → get_or k.back n d < length q.vars
 declared_at q keys h i k lt is n d low = declared q keys h i k (get_or k.back n d) lt is (n, low, get_or_default k.back n (get_or k.back n d) d low)
@@ -76,7 +77,7 @@ others q keys h i k law fits lt is n d within v one other =
     first = subst (λ (j : SliceKey). Contains j.back v) (get_or-take i keys n d before) one
 
     apart : AreApart (get_or h.are.classes n no_slice) (get_or h.are.classes i no_slice)
-    apart = pairs_tail AreApart h.are.front h.are.classes (subst (AllPairs AreApart) h.are.joined (law q h.slices fits.in_range h.are).apart) n i no_slice before (omega (arith, lt, zip_length (IsKeyed q) h.are.classes keys h.each))
+    apart = pairs_tail AreApart h.are.front h.are.classes (subst (AllPairs AreApart) h.are.joined (law q h.slices fits.in_range h.are).apart) n i no_slice before (omega (arith, lt, AllZip-long (IsKeyed q) h.are.classes keys h.each))
 
 -- ---- unsatisfiable by a slice
 
@@ -87,9 +88,13 @@ unsat_by_slice q keys h i k lt is none (values, holds) =
 
 -- ---- values that satisfy all keys
 
+-- the values of the slice's variables satisfy its key
+abbrev pub SatisfiesKey : List ℤ → SliceKey → Type 0
+SatisfiesKey values k = KeyHolds k.key (point_of k.back values)
+
 -- each key is satisfied by the values
-abbrev pub AllMet : List SliceKey → List ℤ → Type 0
-AllMet keys values = All (IsMet values) keys
+abbrev pub SatisfiesAll : List SliceKey → List ℤ → Type 0
+SatisfiesAll keys values = All (SatisfiesKey values) keys
 
 value_of_point : (back : List ℕ) (values : List ℤ) (v : ℕ) → v < length back → value_at (point_of back values) v ≡ value_at values (get_or back v 0)
 value_of_point [] values v lt = absurd (omega arith)
@@ -112,32 +117,32 @@ key_at-is : (keys : List SliceKey) (i : ℕ) → i < length keys → key_at keys
 unfolding key_at
 key_at-is keys i lt = get_or_default keys i (record { key = []; back = [] }) (get_or keys i (record { key = []; back = [] })) lt
 
-met_at : (keys : List SliceKey) (values : List ℤ) → AllMet keys values → (i : ℕ) (k : SliceKey) → i < length keys → k ≡ get_or keys i k → IsMet values k
-met_at keys values met i k lt is = subst (IsMet values) (sym is) (met i k lt)
+satisfied_at : (keys : List SliceKey) (values : List ℤ) → SatisfiesAll keys values → (i : ℕ) (k : SliceKey) → i < length keys → k ≡ get_or keys i k → SatisfiesKey values k
+satisfied_at keys values satisfied i k lt is = subst (SatisfiesKey values) (sym is) (satisfied i k lt)
 
 -- every variable is in some slice, whose key keeps its bounds
-within_bounds : (q : PlainCondition) (keys : List SliceKey) (h : AreKeyed q keys) (values : List ℤ) → AllMet keys values → (n : ℕ) (var : PlainVar) → n < length q.vars → InBounds (get_or q.vars n var) (value_at values n)
-within_bounds q keys h values met n var lt = in_class (h.are.linked.every n lt)
+within_bounds : (q : PlainCondition) (keys : List SliceKey) (h : AreKeyed q keys) (values : List ℤ) → SatisfiesAll keys values → (n : ℕ) (var : PlainVar) → n < length q.vars → InBounds (get_or q.vars n var) (value_at values n)
+within_bounds q keys h values satisfied n var lt = in_class (h.are.linked.every n lt)
   where
     at_place : (i v : ℕ) (k : SliceKey) → i < length keys → k ≡ get_or keys i k → v < length k.back → get_or k.back v 0 ≡ n → InBounds (get_or q.vars n var) (value_at values n)
     at_place i v k within is low named =
-        some_at q.vars n var (λ (x : PlainVar). InBounds x (value_at values n)) (subst (λ (m : ℕ). IsSomeAnd (slice_get q.vars m) (λ x. InBounds x (value_at values m))) named (subst (λ (z : ℤ). IsSomeAnd (slice_get q.vars (get_or k.back v 0)) (λ x. InBounds x z)) (value_of_point k.back values v low) ((keyed q keys h i k within is).bounds (point_of k.back values) (met_at keys values met i k within is) v low)))
+        some_at q.vars n var (λ (x : PlainVar). InBounds x (value_at values n)) (subst (λ (m : ℕ). IsSomeAnd (slice_get q.vars m) (λ x. InBounds x (value_at values m))) named (subst (λ (z : ℤ). IsSomeAnd (slice_get q.vars (get_or k.back v 0)) (λ x. InBounds x z)) (value_of_point k.back values v low) ((keyed q keys h i k within is).bounds (point_of k.back values) (satisfied_at keys values satisfied i k within is) v low)))
 
     in_back : (i : ℕ) (k : SliceKey) → i < length keys → k ≡ get_or keys i k → Contains k.back n → InBounds (get_or q.vars n var) (value_at values n)
     in_back i k within is (v, low, named) = at_place i v k within is low (get_or_default k.back v 0 n low ∙ named)
 
     in_class : Any (λ slice. Contains slice.vars n) h.are.classes → InBounds (get_or q.vars n var) (value_at values n)
     in_class (i, s, within, is, has) =
-        let lt_keys : i < length keys = omega (arith, within, zip_length (IsKeyed q) h.are.classes keys h.each) in
+        let lt_keys : i < length keys = omega (arith, within, AllZip-long (IsKeyed q) h.are.classes keys h.each) in
         let here : get_or h.are.classes i no_slice ≡ s = get_or_default h.are.classes i no_slice s within ∙ is in
         in_back i (key_at keys i) lt_keys (key_at-is keys i lt_keys) (((keyed q keys h i (key_at keys i) lt_keys (key_at-is keys i lt_keys)).vars n).1 (subst (λ (t : PlainSlice). Contains t.vars n) (sym here) has))
 
-assigned : (q : PlainCondition) (keys : List SliceKey) (h : AreKeyed q keys) (values : List ℤ) → AllMet keys values → length values ≡ length q.vars → IsAssignment q.vars values
-assigned q keys h values met long = record { one_each = long; within = λ n var lt. within_bounds q keys h values met n var lt }
+assigned : (q : PlainCondition) (keys : List SliceKey) (h : AreKeyed q keys) (values : List ℤ) → SatisfiesAll keys values → length values ≡ length q.vars → IsAssignment q.vars values
+assigned q keys h values satisfied long = record { one_each = long; within = λ n var lt. within_bounds q keys h values satisfied n var lt }
 
 -- every atom is in some slice, whose key says the same
-all_hold : (q : PlainCondition) (keys : List SliceKey) (h : AreKeyed q keys) (values : List ℤ) → SlicesPartition → Fits q.vars q.atoms → AllMet keys values → IsAssignment q.vars values → All (λ atom. AtomHolds atom values) q.atoms
-all_hold q keys h values law fits met assignment j d lt = some_at q.atoms j d (λ (atom : Atom). AtomHolds atom values) (by_slice (any_cases (λ slice. Contains slice.atoms j) h.are.front h.are.classes (subst (Any (λ slice. Contains slice.atoms j)) h.are.joined ((law q h.slices fits.in_range h.are).each_atom j lt))))
+all_hold : (q : PlainCondition) (keys : List SliceKey) (h : AreKeyed q keys) (values : List ℤ) → SlicesPartition → Fits q.vars q.atoms → SatisfiesAll keys values → IsAssignment q.vars values → All (λ atom. AtomHolds atom values) q.atoms
+all_hold q keys h values law fits satisfied assignment j d lt = some_at q.atoms j d (λ (atom : Atom). AtomHolds atom values) (by_slice (any_cases (λ slice. Contains slice.atoms j) h.are.front h.are.classes (subst (Any (λ slice. Contains slice.atoms j)) h.are.joined ((law q h.slices fits.in_range h.are).each_atom j lt))))
   where
     in_front : (front : List PlainSlice) → IsFront (NamesNothingAt q.atoms) front → Any (λ slice. Contains slice.atoms j) front → HoldsAt q values j
     in_front [] free (k, s, within, is, has) = absurd (omega arith)
@@ -150,16 +155,16 @@ all_hold q keys h values law fits met assignment j d lt = some_at q.atoms j d (�
 
     in_class : Any (λ slice. Contains slice.atoms j) h.are.classes → HoldsAt q values j
     in_class (i, s, within, is, has) =
-        let lt_keys : i < length keys = omega (arith, within, zip_length (IsKeyed q) h.are.classes keys h.each) in
+        let lt_keys : i < length keys = omega (arith, within, AllZip-long (IsKeyed q) h.are.classes keys h.each) in
         let here : get_or h.are.classes i no_slice ≡ s = get_or_default h.are.classes i no_slice s within ∙ is in
         let k : SliceKey = key_at keys i in
-        let met_k : IsMet values (key_at keys i) = met_at keys values met i (key_at keys i) lt_keys (key_at-is keys i lt_keys) in
-        atom_holds_at q (get_or h.are.classes i no_slice) values j (((keyed q keys h i (key_at keys i) lt_keys (key_at-is keys i lt_keys)).same values assignment).1 met_k) (subst (λ (t : PlainSlice). Contains t.atoms j) (sym here) has) lt
+        let satisfied_k : SatisfiesKey values (key_at keys i) = satisfied_at keys values satisfied i (key_at keys i) lt_keys (key_at-is keys i lt_keys) in
+        atom_holds_at q (get_or h.are.classes i no_slice) values j (((keyed q keys h i (key_at keys i) lt_keys (key_at-is keys i lt_keys)).same values assignment).1 satisfied_k) (subst (λ (t : PlainSlice). Contains t.atoms j) (sym here) has) lt
 
     by_slice : Any (λ slice. Contains slice.atoms j) h.are.front ⊎ Any (λ slice. Contains slice.atoms j) h.are.classes → HoldsAt q values j
     by_slice either = ⊎_elim (λ a. in_front h.are.front h.are.variable_free a) (λ b. in_class b) either
 
-pub sat_by_keys : (q : PlainCondition) (keys : List SliceKey) (h : AreKeyed q keys) (values : List ℤ) → SlicesPartition → Fits q.vars q.atoms → AllMet keys values → length values ≡ length q.vars → Holds q values
-sat_by_keys q keys h values law fits met long =
-    let assignment = assigned q keys h values met long in
-    record { assignment = assignment; atoms = all_hold q keys h values law fits met assignment }
+pub sat_by_keys : (q : PlainCondition) (keys : List SliceKey) (h : AreKeyed q keys) (values : List ℤ) → SlicesPartition → Fits q.vars q.atoms → SatisfiesAll keys values → length values ≡ length q.vars → Holds q values
+sat_by_keys q keys h values law fits satisfied long =
+    let assignment = assigned q keys h values satisfied long in
+    record { assignment = assignment; atoms = all_hold q keys h values law fits satisfied assignment }

@@ -5,7 +5,7 @@ use Rattle.lin_model.specs.KeyAtom.{PlainKeyAtom}
 use Rattle.lin_model.specs.Key.{IsKey}
 use Rattle.refutation.specs.declared.leaf.LeafTerm.{LeafTerm}
 use Rattle.refutation.specs.declared.node.Node.{Node}
-use Rattle.refutation.specs.SearchTree.{any_split, IsOpenTree}
+use Rattle.refutation.specs.SearchTree.{halving, IsOpenTree}
 use Rattle.refutation.specs.Laws.{RefutedHasNoPoint}
 use Rattle.box_solver.specs.declared.found.Found.{Found}
 use Rattle.box_solver.specs.declared.found.Found.TheVariants.{Model as FoundModel, Refuted as FoundRefuted, Spent as FoundSpent}
@@ -27,6 +27,6 @@ reply-says key budget old new (FoundModel point) is_key law a = record { nodes =
 reply-says key budget old new FoundRefuted is_key law a = record { nodes = a.nodes; terms = a.terms; tree = a.answer; none = law key a.nodes a.terms is_key a.answer.refutes }
 reply-says key budget old new FoundSpent is_key law a =
     record {
-      open_tree = subst (λ (ns : List Node). IsOpenTree any_split key budget ns (drop (length old.terms) new.terms)) (sym (added new.nodes old.nodes a.nodes a.adds.nodes_after)) (subst (λ (ts : List LeafTerm). IsOpenTree any_split key budget a.nodes ts) (sym (added new.terms old.terms a.terms a.adds.terms_after)) a.answer.open_tree);
+      open_tree = subst (λ (ns : List Node). IsOpenTree halving key budget ns (drop (length old.terms) new.terms)) (sym (added new.nodes old.nodes a.nodes a.adds.nodes_after)) (subst (λ (ts : List LeafTerm). IsOpenTree halving key budget a.nodes ts) (sym (added new.terms old.terms a.terms a.adds.terms_after)) a.answer.open_tree);
       below_room = a.answer.below_room;
     }

@@ -2,6 +2,7 @@
 use Rattle.std.proofs.Common.{◌≡◌, ◌↔◌, ℕ, zero, suc, ◌<◌, ℤ, pos, Bool, true, false, cond, nat_lt, Option, Some, None, IsSomeAnd, List, [], ◌∷◌, ◌++◌, length, get_or, slice_get, arith, refl, sym, subst, ap, ◌∙◌, ⊎_elim}
 use Rattle.std.specs.List.{All, Any, AllZip, Contains, filter_map, cons_option}
 use Rattle.std.proofs.lemmas.Bool.{ltb-false}
+use Rattle.std.proofs.lemmas.Slice.Zip.{AllZip-long}
 use Rattle.std.proofs.lemmas.Option.{slice_get_within}
 use Rattle.std.proofs.lemmas.List.Elements.{All-head, All-tail}
 use Rattle.lin_model.specs.Truth.{AtomHolds, IsAssignment}
@@ -35,12 +36,6 @@ zip_at {A} {B} R [] (y ∷ ys) k d e h lt = absurd h
 zip_at {A} {B} R (x ∷ xs) [] k d e h lt = absurd h
 zip_at {A} {B} R (x ∷ xs) (y ∷ ys) zero d e h lt = h.0
 zip_at {A} {B} R (x ∷ xs) (y ∷ ys) (suc k) d e h lt = zip_at R xs ys k d e h.1 (omega arith)
-
-pub zip_length : {A B : Type 0} (R : A → B → Type 0) (xs : List A) (ys : List B) → AllZip R xs ys → length xs ≡ length ys
-zip_length {A} {B} R [] [] h = refl
-zip_length {A} {B} R [] (y ∷ ys) h = absurd h
-zip_length {A} {B} R (x ∷ xs) [] h = absurd h
-zip_length {A} {B} R (x ∷ xs) (y ∷ ys) h = ap suc (zip_length R xs ys h.1)
 
 -- what holds of all that is kept holds of one that is
 cons_head : {Y : Type 0} (P : Y → Type 0) (o : Option Y) (ys : List Y) (y : Y) → o ≡ Some y → All P (cons_option o ys) → P y
@@ -86,7 +81,7 @@ find_slice q slices cs i law fits are zip lt = of ((law q slices fits.in_range a
     of (k, s, within, is, has) = record {
       slice = s;
       place = k;
-      within = omega (arith, within, zip_length (Canonises q) slices cs zip);
+      within = omega (arith, within, AllZip-long (Canonises q) slices cs zip);
       has = has;
       each = λ e. subst (λ (x : PlainSlice). Canonises q x (get_or cs k e)) is (zip_at (Canonises q) slices cs k s e zip within);
     }
@@ -106,7 +101,7 @@ least_is_never q slices cs j law fits are zip false_j = record {
 }
   where
     told : Contains cs (False j) → IsNeverAt q j
-    told (k, lt, is) = let within : k < length slices = omega (arith, lt, zip_length (Canonises q) slices cs zip) in (subst (Canonises q (get_or slices k (record { vars = []; atoms = [] }))) is (zip_at (Canonises q) slices cs k (record { vars = []; atoms = [] }) (False j) zip within)).never
+    told (k, lt, is) = let within : k < length slices = omega (arith, lt, AllZip-long (Canonises q) slices cs zip) in (subst (Canonises q (get_or slices k (record { vars = []; atoms = [] }))) is (zip_at (Canonises q) slices cs k (record { vars = []; atoms = [] }) (False j) zip within)).never
 
 none_is_never : (q : PlainCondition) (slices : List PlainSlice) (cs : List Canonical) → SlicesPartition → Fits q.vars q.atoms → AreSlices q slices → AllZip (Canonises q) slices cs → All HasKey cs → NoneIsNever q
 none_is_never q slices cs law fits are zip keys i bad =

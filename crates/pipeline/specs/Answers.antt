@@ -5,10 +5,11 @@ use Rattle.lin_model.specs.Conditions.{PlainCondition, Holds, IsSatisfiable}
 use Rattle.lin_model.specs.KeyAtom.{PlainKeyAtom}
 use Rattle.slicer.specs.Slices.{PlainSlice, AreClasses}
 use Rattle.canoniser.specs.Keys.{IsKeyOf}
-use Rattle.canoniser.specs.Solutions.{IsNeverAt}
+use Rattle.canoniser.specs.Numbering.{order_of}
+use Rattle.canoniser.specs.Solutions.{IsNeverAt, point_of}
 use Rattle.refutation.specs.Tree.{PlainTree}
 use Rattle.refutation.specs.Reading.{HasNoPoint}
-use Rattle.refutation.specs.SearchTree.{any_split, IsOpenTree, room}
+use Rattle.refutation.specs.SearchTree.{halving, IsOpenTree, room}
 use Rattle.refutation.specs.declared.leaf.LeafTerm.{LeafTerm}
 use Rattle.refutation.specs.declared.node.Node.{Node}
 use Rattle.box_solver.specs.Answer.{IsModelTree, IsRefutingTree}
@@ -39,7 +40,7 @@ pub record IsRefuted (budget : ℕ) (key : List PlainKeyAtom) : Type 0 where
 
 -- just the splits of the budget were spent, and they are fewer than the key has room for
 pub record IsSpentOn (budget : ℕ) (key : List PlainKeyAtom) (tree : PlainTree) : Type 0 where
-  pub open_tree : IsOpenTree any_split key budget tree.nodes tree.terms
+  pub open_tree : IsOpenTree halving key budget tree.nodes tree.terms
   pub below_room : budget < room key
 
 -- what a reply says of the key
@@ -62,6 +63,12 @@ pub record HasModel (budget : ℕ) (q : PlainCondition) (slice : PlainSlice) : T
   pub is_key : IsKeyOf q slice key
   pub point : List ℤ
   pub model : IsModelOf budget key point
+
+-- the values of the slice's variables are a model of its key to which a search within the budget came
+pub record IsGivenBy (budget : ℕ) (q : PlainCondition) (values : List ℤ) (slice : PlainSlice) : Type 0 where
+  pub key : List PlainKeyAtom
+  pub is_key : IsKeyOf q slice key
+  pub model : IsModelOf budget key (point_of (order_of q slice) values)
 
 -- a search within the budget refuted its key
 pub record HasNoModel (budget : ℕ) (q : PlainCondition) (slice : PlainSlice) : Type 0 where
@@ -101,11 +108,12 @@ pub record IsFirstOpen (parts : List PlainPart) (s : ℕ) : Type 0 where
   pub here : IsSomeAnd (slice_get parts s) IsOpen
   pub before : (i : ℕ) → i < s → slice_get parts i ≡ Some Solved
 
--- values that make the query hold as written; all slices were asked, and each has a model
+-- values that make the query hold as written; all slices were asked, and each gave its variables the values of its model
 pub record IsSat (budget : ℕ) (q : PlainCondition) (classes : List PlainSlice) (values : List ℤ) (parts : List PlainPart) : Type 0 where
   pub possible : NoneIsNever q
   pub holds : Holds q values
-  pub left : AllZip (Leaves budget q) classes parts
+  pub given : All (IsGivenBy budget q values) classes
+  pub asked : length parts ≡ length classes
   pub solved : All (λ part. part ≡ Solved) parts
 
 -- the least atom without an integer solution; nothing was searched

@@ -3,7 +3,8 @@
 use refutation::Tree;
 use sqlite_items::Items;
 
-/// The verdict on a query. Atoms are numbered from 0, and so are the slices with variables.
+/// The verdict on a query. Atoms are numbered from 0, and so are the slices with variables: a slice without variables,
+/// which `slicer::slices` puts in front, has no number here.
 #[derive(Debug, Drop)]
 pub enum Told {
     /// One value per variable, in order of declaration, that makes the query hold as written.
@@ -28,6 +29,8 @@ pub enum PlainPart {
 /// An answer: the verdict, and one part for each slice that was asked, in order.
 #[derive(Debug, Drop)]
 pub struct Plain {
+    /// What is told of the query.
     pub verdict: Told,
+    /// What was done for each slice that was asked.
     pub parts: Items<PlainPart>,
 }

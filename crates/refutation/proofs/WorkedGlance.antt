@@ -11,7 +11,7 @@ use Rattle.refutation.specs.Bounds.{variables, key_bounds, is_empty, least, grea
 use Rattle.refutation.specs.Box.{PlainBox, root_box, on_side}
 use Rattle.refutation.specs.Leaf.{combo, fixed, empty, combo_closes, fixed_closes, summed_form, is_positive_sum, ClosedByOneAtom, ClosedBySumOfTwo}
 use Rattle.refutation.specs.SearchOrder.{lowest_corner}
-use Rattle.refutation.specs.SearchTree.{any_split, whole_order, IsUndecided}
+use Rattle.refutation.specs.SearchTree.{halving, whole_order, IsUndecided}
 use Rattle.refutation.proofs.LookUps.{All-at}
 use Rattle.refutation.proofs.UnitTerms.{no_unit_closes, no_fixed_closes, no_two_close, not_by_one, not_by_two}
 use Rattle.refutation.proofs.Worked.{sum_of, difference, atom, on_atom, on_side as side_term, over, crossed, pinned, one_value}
@@ -82,8 +82,8 @@ corner-fails : (key : List PlainKeyAtom) (point : List ℤ) (i : ℕ) (a : Plain
 corner-fails key point i a is fails holds =
     both_ways (passes a.op a.constant (form_value a.form point)) fails (All-at (λ b. KeyAtomHolds b point) key i a holds is)
 
-pub undecided-any : (key : List PlainKeyAtom) (box : PlainBox) (i : ℕ) (a : PlainKeyAtom) → is_empty box.bounds ≡ false → no_unit_closes key box ≡ true → no_fixed_closes key box ≡ true → slice_get key i ≡ Some a → passes a.op a.constant (form_value a.form (lowest_corner key box.bounds)) ≡ false → IsUndecided any_split key box
-undecided-any key box i a full units values is fails = record {
+pub undecided-halving : (key : List PlainKeyAtom) (box : PlainBox) (i : ℕ) (a : PlainKeyAtom) → is_empty box.bounds ≡ false → no_unit_closes key box ≡ true → no_fixed_closes key box ≡ true → slice_get key i ≡ Some a → passes a.op a.constant (form_value a.form (lowest_corner key box.bounds)) ≡ false → IsUndecided halving key box
+undecided-halving key box i a full units values is fails = record {
   not_by_one = not_by_one key box full units values;
   not_by_two = tt;
   corner_fails = corner-fails key (lowest_corner key box.bounds) i a is fails;

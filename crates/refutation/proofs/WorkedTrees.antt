@@ -1,5 +1,5 @@
 -- Search trees, open trees and rooms on small worked values, as the checker computes them.
-use Rattle.std.proofs.Common.{◌≡◌, ℤ, pos, negsuc, true, false, List, [], ◌∷◌, Some, refl, arith}
+use Rattle.std.proofs.Common.{◌≡◌, ℕ, zero, suc, ◌<◌, ℤ, ◌≤ℤ◌, ◌<ℤ◌, subst, pos, negsuc, true, false, List, [], ◌∷◌, Some, refl, arith}
 use Rattle.std.proofs.lemmas.Int.{ints}
 use Rattle.std.proofs.lemmas.List.Elements.{All-nil, All-cons}
 use Rattle.lin_model.specs.declared.op.Op.TheVariants.{Le, Ge, Eq, Ne}
@@ -8,16 +8,17 @@ use Rattle.lin_model.specs.Key.{KeyHolds}
 use Rattle.lin_model.specs.Bounded.{variable}
 use Rattle.refutation.specs.declared.node.Node.{Node}
 use Rattle.refutation.specs.declared.node.Node.TheVariants.{Split, NeSplit, Combo, Left}
-use Rattle.refutation.specs.Bounds.{variables, key_bounds, is_empty, least, greatest}
+use Rattle.refutation.specs.Bounds.{PlainBounds, variables, key_bounds, is_empty, least, greatest}
 use Rattle.refutation.specs.Box.{PlainBox, root_box, left_half, on_side}
 use Rattle.refutation.specs.Leaf.{combo, combo_closes, fixed_closes, summed_form, is_positive_sum}
 use Rattle.refutation.specs.Reading.{treated}
 use Rattle.refutation.specs.Cut.{cut, upper_cut, lower_cut}
-use Rattle.refutation.specs.SearchOrder.{step, lowest_corner}
-use Rattle.refutation.specs.SearchTree.{any_split, whole_order, IsUndecided, IsFair, IsSearchSplit, Searches, IsSearchTree, boxes_left, undecided_boxes, FirstLeftIsUndecided, IsOpenTree, room}
+use Rattle.refutation.specs.SearchOrder.{step, lowest_corner, spread, middle}
+use Rattle.refutation.specs.Halving.{IsWidest}
+use Rattle.refutation.specs.SearchTree.{halving, whole_order, IsUndecided, IsFair, IsSearchSplit, Searches, IsSearchTree, boxes_left, undecided_boxes, FirstLeftIsUndecided, IsOpenTree, room}
 use Rattle.refutation.proofs.Worked.{difference, atom, on_atom, on_side as side_term, over}
 use Rattle.refutation.proofs.WorkedCuts.{not_zero, three}
-use Rattle.refutation.proofs.WorkedGlance.{undecided-any, undecided-whole}
+use Rattle.refutation.proofs.WorkedGlance.{undecided-halving, undecided-whole}
 
 -- ---- the search order whole
 
@@ -75,32 +76,42 @@ check_out_of_order h =
     let same : pos 4 ≡ pos 3 = cc in
     absurd (omega (arith, ints, same))
 
--- ---- any split
+-- ---- halving
 
 -- `v0 - v1 <= -1` and `v0 - v1 >= 1` over wide bounds: no one atom closes the box, but the sum of two does
 abbrev apart : List PlainKeyAtom
 apart =
     atom (variable 0) Le (pos 2147483647) ∷ atom (variable 0) Ge (negsuc 2147483647) ∷ atom difference Le (negsuc 0) ∷ atom difference Ge (pos 1) ∷ atom (variable 1) Le (pos 2147483647) ∷ atom (variable 1) Ge (negsuc 2147483647) ∷ []
 
-apart-undecided : IsUndecided any_split apart (root_box apart)
+apart-undecided : IsUndecided halving apart (root_box apart)
 unfolding combo_closes fixed_closes summed_form is_positive_sum is_empty least greatest lowest_corner variables key_bounds
-apart-undecided = undecided-any apart (root_box apart) 2 (atom difference Le (negsuc 0)) refl refl refl refl refl
+apart-undecided = undecided-halving apart (root_box apart) 2 (atom difference Le (negsuc 0)) refl refl refl refl refl
 
-apart-half_undecided : IsUndecided any_split apart (left_half (root_box apart) 0 (negsuc 0))
+apart-half_undecided : IsUndecided halving apart (left_half (root_box apart) 0 (negsuc 0))
 unfolding combo_closes fixed_closes summed_form is_positive_sum is_empty least greatest lowest_corner variables key_bounds
-apart-half_undecided = undecided-any apart (left_half (root_box apart) 0 (negsuc 0)) 2 (atom difference Le (negsuc 0)) refl refl refl refl refl
+apart-half_undecided = undecided-halving apart (left_half (root_box apart) 0 (negsuc 0)) 2 (atom difference Le (negsuc 0)) refl refl refl refl refl
 
-apart-split : IsSearchSplit any_split apart (root_box apart) (Split 0 (negsuc 0))
+-- both variables are equally wide
+apart-widest : IsWidest (key_bounds apart) 2 0
+unfolding key_bounds variables
+apart-widest = record { below = omega arith; widest = widest; first = λ w lt. absurd (omega arith) }
+  where
+    widest : (w : ℕ) → w < 2 → spread (key_bounds apart) w ≤ℤ spread (key_bounds apart) 0
+    widest zero lt = omega (arith, ints)
+    widest (suc zero) lt = omega (arith, ints)
+    widest (suc (suc w)) lt = absurd (omega arith)
+
+apart-split : IsSearchSplit halving apart (root_box apart) (Split 0 (negsuc 0))
 unfolding is_empty key_bounds variables
 apart-split = record {
   fair = record { of_key = omega arith; left = refl; right = refl };
   undecided = apart-undecided;
-  in_order = tt;
+  in_order = record { var = 0; is_widest = apart-widest; at_middle = refl };
 }
 
-check_open_any : IsOpenTree any_split apart 1 (Split 0 (negsuc 0) ∷ Left ∷ Left ∷ []) []
+check_open_halving : IsOpenTree halving apart 1 (Split 0 (negsuc 0) ∷ Left ∷ Left ∷ []) []
 unfolding Searches boxes_left FirstLeftIsUndecided treated
-check_open_any = record {
+check_open_halving = record {
   search = (apart-split, (tt, (tt, refl)));
   inner = refl;
   has_left = refl;
@@ -109,28 +120,87 @@ check_open_any = record {
   first_left = apart-half_undecided;
 }
 
--- a box behind the first Left may be closed: with v0 at its upper side there is no greater v1
-apart-low_undecided : IsUndecided any_split apart (left_half (root_box apart) 0 (pos 2147483646))
-unfolding combo_closes fixed_closes summed_form is_positive_sum is_empty least greatest lowest_corner variables key_bounds
-apart-low_undecided = undecided-any apart (left_half (root_box apart) 0 (pos 2147483646)) 2 (atom difference Le (negsuc 0)) refl refl refl refl refl
+-- a cut at the lower side isn't at the middle
+check_at_lower_side : ¬ IsOpenTree halving apart 1 (Split 0 (negsuc 2147483647) ∷ Left ∷ Left ∷ []) []
+unfolding Searches key_bounds variables
+check_at_lower_side h =
+    let half = h.search.0.in_order in
+    let var : half.var ≡ 0 = cc in
+    let cut : negsuc 2147483647 ≡ middle (key_bounds apart) half.var = cc in
+    let at_middle : negsuc 2147483647 ≡ negsuc 0 = subst (λ v. negsuc 2147483647 ≡ middle (key_bounds apart) v) var cut in
+    absurd (omega (arith, ints, at_middle))
 
-apart-last_split : IsSearchSplit any_split apart (root_box apart) (Split 0 (pos 2147483646))
+-- the second variable isn't the first among equals
+check_second_of_equals : ¬ IsOpenTree halving apart 1 (Split 1 (negsuc 0) ∷ Left ∷ Left ∷ []) []
+unfolding Searches key_bounds variables
+check_second_of_equals h =
+    let half = h.search.0.in_order in
+    let var : half.var ≡ 1 = cc in
+    let narrower : spread (key_bounds apart) 0 <ℤ spread (key_bounds apart) 1 = subst (λ v. spread (key_bounds apart) 0 <ℤ spread (key_bounds apart) v) var (half.is_widest.first 0 (omega (arith, var))) in
+    omega (arith, ints, narrower)
+
+-- of v0 from 0 to 4 and v1 and v2 from 0 to 9 the widest is v1
+abbrev three_variables : PlainBounds
+three_variables =
+    key_bounds (atom (variable 0) Le (pos 4) ∷ atom (variable 0) Ge (pos 0) ∷ atom (variable 1) Le (pos 9) ∷ atom (variable 1) Ge (pos 0) ∷ atom (variable 2) Le (pos 9) ∷ atom (variable 2) Ge (pos 0) ∷ [])
+
+check_widest : IsWidest three_variables 3 1
+unfolding key_bounds variables
+check_widest = record { below = omega arith; widest = widest; first = first }
+  where
+    widest : (w : ℕ) → w < 3 → spread three_variables w ≤ℤ pos 9
+    widest zero lt = omega (arith, ints)
+    widest (suc zero) lt = omega (arith, ints)
+    widest (suc (suc zero)) lt = omega (arith, ints)
+    widest (suc (suc (suc w))) lt = absurd (omega arith)
+
+    first : (w : ℕ) → w < 1 → spread three_variables w <ℤ pos 9
+    first zero lt = omega (arith, ints)
+    first (suc w) lt = absurd (omega arith)
+
+check_not_the_first : ¬ IsWidest three_variables 3 2
+unfolding key_bounds variables
+check_not_the_first h = let first : pos 9 <ℤ pos 9 = h.first 1 (omega arith) in omega (arith, ints, first)
+
+-- a box behind the first Left may be closed: `v0 - v1 <= -1` over 0 to 3 and 0 to 2 has no point with v0 above 1
+abbrev below : List PlainKeyAtom
+below =
+    atom (variable 0) Le (pos 3) ∷ atom (variable 0) Ge (pos 0) ∷ atom difference Le (negsuc 0) ∷ atom (variable 1) Le (pos 2) ∷ atom (variable 1) Ge (pos 0) ∷ []
+
+below-undecided : IsUndecided halving below (root_box below)
+unfolding combo_closes fixed_closes summed_form is_positive_sum is_empty least greatest lowest_corner variables key_bounds
+below-undecided = undecided-halving below (root_box below) 2 (atom difference Le (negsuc 0)) refl refl refl refl refl
+
+below-low_undecided : IsUndecided halving below (left_half (root_box below) 0 (pos 1))
+unfolding combo_closes fixed_closes summed_form is_positive_sum is_empty least greatest lowest_corner variables key_bounds
+below-low_undecided = undecided-halving below (left_half (root_box below) 0 (pos 1)) 2 (atom difference Le (negsuc 0)) refl refl refl refl refl
+
+below-widest : IsWidest (key_bounds below) 2 0
+unfolding key_bounds variables
+below-widest = record { below = omega arith; widest = widest; first = λ w lt. absurd (omega arith) }
+  where
+    widest : (w : ℕ) → w < 2 → spread (key_bounds below) w ≤ℤ pos 3
+    widest zero lt = omega (arith, ints)
+    widest (suc zero) lt = omega (arith, ints)
+    widest (suc (suc w)) lt = absurd (omega arith)
+
+below-split : IsSearchSplit halving below (root_box below) (Split 0 (pos 1))
 unfolding is_empty key_bounds variables
-apart-last_split = record {
+below-split = record {
   fair = record { of_key = omega arith; left = refl; right = refl };
-  undecided = apart-undecided;
-  in_order = tt;
+  undecided = below-undecided;
+  in_order = record { var = 0; is_widest = below-widest; at_middle = refl };
 }
 
-check_closed_after_left : IsOpenTree any_split apart 1 (Split 0 (pos 2147483646) ∷ Left ∷ Combo 1 ∷ []) (on_atom 2 (pos 1) ∷ [])
+check_closed_after_left : IsOpenTree halving below 1 (Split 0 (pos 1) ∷ Left ∷ Combo 1 ∷ []) (on_atom 2 (pos 1) ∷ [])
 unfolding Searches boxes_left FirstLeftIsUndecided treated combo_closes summed_form is_positive_sum least key_bounds variables
 check_closed_after_left = record {
-  search = (apart-last_split, (tt, (tt, refl)));
+  search = (below-split, (tt, (tt, refl)));
   inner = refl;
   has_left = refl;
   ends = refl;
   left_last = (λ e. absurd (cc), (λ _. refl, (λ e. absurd (cc), tt)));
-  first_left = apart-low_undecided;
+  first_left = below-low_undecided;
 }
 
 -- in the search order the sum of two closes the root
@@ -139,16 +209,16 @@ unfolding Searches combo_closes summed_form is_positive_sum least variables key_
 check_closed_by_two h = h.search.0.undecided.not_by_two (combo (on_atom 2 (pos 1) ∷ on_atom 3 (pos 1) ∷ []), refl, refl)
 
 -- a tree of one split isn't one of two
-check_too_few_splits : ¬ IsOpenTree any_split apart 2 (Split 0 (negsuc 0) ∷ Left ∷ Left ∷ []) []
+check_too_few_splits : ¬ IsOpenTree halving apart 2 (Split 0 (negsuc 0) ∷ Left ∷ Left ∷ []) []
 check_too_few_splits h = absurd (omega (arith, h.inner))
 
 -- the upper half is left undecided
-check_box_left : ¬ IsOpenTree any_split apart 1 (Split 0 (negsuc 0) ∷ Left ∷ []) []
+check_box_left : ¬ IsOpenTree halving apart 1 (Split 0 (negsuc 0) ∷ Left ∷ []) []
 unfolding boxes_left treated
 check_box_left h = let none = h.ends in absurd (cc)
 
 -- a split stands behind a Left
-check_split_after_left : ¬ IsOpenTree any_split apart 2 (Split 0 (negsuc 0) ∷ Left ∷ Split 0 (pos 0) ∷ Left ∷ Left ∷ []) []
+check_split_after_left : ¬ IsOpenTree halving apart 2 (Split 0 (negsuc 0) ∷ Left ∷ Split 0 (pos 0) ∷ Left ∷ Left ∷ []) []
 check_split_after_left h = absurd (omega (arith, h.left_last.1.0 refl))
 
 -- a box whose lowest corner is a model isn't left: `v0 <= 3`, `v0 >= 3`
@@ -156,7 +226,7 @@ three-holds : KeyHolds three (pos 3 ∷ [])
 three-holds =
     All-cons (λ a. KeyAtomHolds a (pos 3 ∷ [])) (atom (variable 0) Le (pos 3)) (atom (variable 0) Ge (pos 3) ∷ []) refl (All-cons (λ a. KeyAtomHolds a (pos 3 ∷ [])) (atom (variable 0) Ge (pos 3)) [] refl (All-nil (λ a. KeyAtomHolds a (pos 3 ∷ []))))
 
-check_model_left : ¬ IsOpenTree any_split three 0 (Left ∷ []) []
+check_model_left : ¬ IsOpenTree halving three 0 (Left ∷ []) []
 unfolding FirstLeftIsUndecided lowest_corner key_bounds variables
 check_model_left h = h.first_left.corner_fails three-holds
 

@@ -1,11 +1,11 @@
 -- Cuts: the bound of one variable that an atom gives within bounds.
 use Rattle.std.specs.Prelude.{ℕ, zero, suc, ℤ, pos, negsuc, neg_ℤ, ◌-ℤ◌, Bool, true, false, not, ◌&&◌, if◌then◌else◌, ◌==◌, int_lt, int_le, Option, Some, None, is_some, List}
-use Rattle.std.specs.Int.{int_div_euclid}
 use Rattle.std.specs.List.{list_all, filter}
 use Rattle.std.specs.Option.{option_map, option_and_then}
 use Rattle.lin_model.specs.declared.form.FormTerm.{FormTerm}
 use Rattle.lin_model.specs.declared.op.Op.TheVariants.{Le, Ge, Eq, Ne}
 use Rattle.lin_model.specs.KeyAtom.{PlainKeyAtom}
+use Rattle.lin_model.specs.Quotients.{floor_div, ceil_div}
 use Rattle.refutation.specs.Bounds.{PlainBounds, lower_of, upper_of, least, greatest}
 use Rattle.refutation.specs.Leaf.{coefficient_of}
 
@@ -13,14 +13,6 @@ use Rattle.refutation.specs.Leaf.{coefficient_of}
 pub record PlainCut : Type 0 where
   pub value : ℤ
   pub upper : Bool
-
--- the quotient by a positive number, rounded down
-abbrev pub floor_div : ℤ → ℕ → ℤ
-floor_div n d = int_div_euclid n (pos d)
-
--- the quotient by a positive number, rounded up
-abbrev pub ceil_div : ℤ → ℕ → ℤ
-ceil_div n d = neg_ℤ (floor_div (neg_ℤ n) d)
 
 -- the upper bound of v that `a * v <= n` gives
 abbrev pub upper_at_most : ℤ → ℤ → Option ℤ

@@ -17,6 +17,6 @@ RefutedHasNoPoint = (key : List PlainKeyAtom) (nodes : List Node) (terms : List 
 abbrev pub BoundedIsBoxed : Type 0
 BoundedIsBoxed = (key : List PlainKeyAtom) → IsKey key → IsBounded key → IsBoxed key
 
--- an open tree has fewer splits than its key has room
+-- an open tree of a boxed key has fewer splits than the key has room
 abbrev pub OpenTreesAreBelowRoom : Type 0
 OpenTreesAreBelowRoom = (rule : Rule) (key : List PlainKeyAtom) (splits : ℕ) (nodes : List Node) (terms : List LeafTerm) → IsKey key → IsBoxed key → IsOpenTree rule key splits nodes terms → splits < room key

@@ -8,5 +8,6 @@ pub mod Tree
 pub mod Walk
 pub mod Cut
 pub mod SearchOrder
+pub mod Halving
 pub mod SearchTree
 pub mod Laws

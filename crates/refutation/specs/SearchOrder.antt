@@ -11,7 +11,8 @@ use Rattle.refutation.specs.declared.node.Node.{Node}
 use Rattle.refutation.specs.declared.node.Node.TheVariants.{Split, NeSplit}
 use Rattle.refutation.specs.Bounds.{PlainBounds, lower_of, upper_of}
 use Rattle.refutation.specs.Box.{PlainBox, is_ne}
-use Rattle.refutation.specs.Cut.{PlainCut, cut, floor_div}
+use Rattle.refutation.specs.Cut.{PlainCut, cut}
+use Rattle.lin_model.specs.Quotients.{floor_div}
 
 -- the lower side of a variable; the search asks only where it is there
 abbrev pub lower_or_zero : PlainBounds → ℕ → ℤ
@@ -82,17 +83,17 @@ abbrev pub middle : PlainBounds → ℕ → ℤ
 middle b v = floor_div (lower_or_zero b v +ℤ upper_or_zero b v) 2
 
 -- the split in half of the form's widest variable
-abbrev pub halving : PlainBounds → List FormTerm → Node
-halving b form = Split (widest b form) (middle b (widest b form))
+abbrev pub split_in_half : PlainBounds → List FormTerm → Node
+split_in_half b form = Split (widest b form) (middle b (widest b form))
 
--- the first cut that raises a lower side, else the first that lowers an upper side, else the halving
+-- the first cut that raises a lower side, else the first that lowers an upper side, else the split in half
 abbrev pub split_by : PlainBounds → PlainKeyAtom → Node
-split_by b a = option_map_or (λ n. n) (first_raising b a) (option_map_or (λ n. n) (first_lowering b a) (halving b a.form))
+split_by b a = option_map_or (λ n. n) (first_raising b a) (option_map_or (λ n. n) (first_lowering b a) (split_in_half b a.form))
 
 -- the node for a box whose lowest corner fails this atom first
 abbrev pub node_for : PlainBox → Numbered → Node
 node_for box f =
-    if is_ne f.atom then (if was_split box f.number then halving box.bounds f.atom.form else NeSplit f.number) else split_by box.bounds f.atom
+    if is_ne f.atom then (if was_split box f.number then split_in_half box.bounds f.atom.form else NeSplit f.number) else split_by box.bounds f.atom
 
 -- the node that the box asks for, None where its lowest corner satisfies the key
 unfoldable pub step : List PlainKeyAtom → PlainBox → Option Node

@@ -12,15 +12,16 @@ use Rattle.refutation.specs.Box.{PlainBox, root_box, is_ne, left_half, right_hal
 use Rattle.refutation.specs.Leaf.{ClosedByOneAtom, ClosedBySumOfTwo}
 use Rattle.refutation.specs.Reading.{Treated, treated}
 use Rattle.refutation.specs.SearchOrder.{lowest_corner, step}
+use Rattle.refutation.specs.Halving.{IsHalving}
 
--- how much is asked of the inner nodes: any split of a box that one atom doesn't close, or the search order whole
+-- which split the search puts at a box: its halving, where no one atom closes it, or the one of the search order, where no sum of two does either
 pub data Rule : Type 0 where
-  any_split : Rule
+  halving : Rule
   whole_order : Rule
 
 -- the fact, where the search order is asked whole
 abbrev pub OnWholeOrder : Rule → Type 0 → Type 0
-OnWholeOrder any_split P = Unit {0}
+OnWholeOrder halving P = Unit {0}
 OnWholeOrder whole_order P = P
 
 -- a box that the search has to split: nothing closes it at a glance, and its lowest corner isn't a model
@@ -44,11 +45,16 @@ IsFair key box (Fixed i) = ⊥
 IsFair key box Empty = ⊥
 IsFair key box Left = ⊥
 
--- an inner node where the search may put one: fair, at a box that has to be split, and the one that is in order
+-- the node is the one that the rule puts at this box
+abbrev pub IsInOrder : Rule → List PlainKeyAtom → PlainBox → Node → Type 0
+IsInOrder halving key box node = IsHalving key box.bounds node
+IsInOrder whole_order key box node = step key box ≡ Some node
+
+-- an inner node where the search puts one: fair, at a box that has to be split, and the one that is in order
 pub record IsSearchSplit (rule : Rule) (key : List PlainKeyAtom) (box : PlainBox) (node : Node) : Type 0 where
   pub fair : IsFair key box node
   pub undecided : IsUndecided rule key box
-  pub in_order : OnWholeOrder rule (step key box ≡ Some node)
+  pub in_order : IsInOrder rule key box node
 
 -- a split stands only where the search puts it
 abbrev pub KeepsRule : Rule → List PlainKeyAtom → PlainBox → Node → Type 0

@@ -11,7 +11,7 @@ pub fn bounded_keys_are_boxed()
     ensures { BoundedIsBoxed }
 {}
 
-/// An open tree has fewer splits than its key has room.
+/// An open tree of a boxed key has fewer splits than the key has room.
 pub fn open_trees_are_below_room()
     ensures { OpenTreesAreBelowRoom }
 {}

@@ -1,5 +1,5 @@
 //! Tests of the program's parts together: worked sessions from bytes to bytes, command lines, texts that are refused,
-//! devices that fail, and calls with ample memory.
+//! devices and streams that fail, and calls with ample memory.
 #![tactic(auto)]
 
 #[cfg(test)]
@@ -16,5 +16,7 @@ mod queries;
 mod sessions;
 #[cfg(test)]
 mod sources;
+#[cfg(test)]
+mod streams;
 #[cfg(test)]
 mod words;

@@ -1,6 +1,6 @@
 -- The variables that a growing side names, and the limits of their numbers.
 use Rattle.std.proofs.Common.{◌≡◌, ◌↔◌, ℕ, ◌+◌, ◌<◌, ◌≤◌, List, [], ◌∷◌, ◌++◌, length, take, get_or, Option, Some, None, ◌⊎◌, inl, inr, arith, sym, subst, ap, ◌∙◌, append-nil}
-use Rattle.std.specs.Prelude.{Contains, All, IfSome}
+use Rattle.std.specs.Prelude.{Contains, All}
 use Rattle.std.specs.List.{cons_option}
 use Rattle.std.proofs.lemmas.List.{take_more, get_or_default}
 use Rattle.std.proofs.Math.ListN.{get_or-append}
@@ -8,8 +8,9 @@ use Rattle.std.proofs.Math.Seq.{get_or-append_seam}
 use borrow.Author.Count.{below_more}
 use Rattle.std.proofs.lemmas.List.Elements.{Contains-append_left, Contains-push, Contains-push_cases, filter_map-append}
 use Rattle.lin_model.specs.Terms.{PlainTerm}
-use Rattle.lin_model.specs.Conditions.{NamesBelow, AtomNamesBelow}
+use Rattle.lin_model.specs.Conditions.{AtomNamesBelow}
 use Rattle.lin_model.specs.declared.atom.Atom.{Atom}
+use Rattle.lin_model.proofs.NamesLemmas.{AtomNamesBelow-larger}
 use Rattle.slicer.specs.declared.var_set.VarSet.{VarSet}
 use Rattle.slicer.specs.Names.{side_vars}
 use Rattle.slicer.specs.VarSets.{IsSetOf}
@@ -29,17 +30,8 @@ Contains-side_vars_more terms k term v within is =
     let vars : side_vars (take (k + 1) terms) ≡ side_vars (take k terms) ++ cons_option term.var [] = ap side_vars more ∙ filter_map-append (λ (t : PlainTerm). t.var) (take k terms) (term ∷ []) in
     rw vars (Contains-one_more (side_vars (take k terms)) term.var v)
 
-IfSome-below : (n m : ℕ) → n ≤ m → (o : Option ℕ) → IfSome o (λ v. v < n) → IfSome o (λ v. v < m)
-IfSome-below n m le None below = below
-IfSome-below n m le (Some v) below = omega arith
-
-pub NamesBelow-larger : (n m : ℕ) → n ≤ m → (terms : List PlainTerm) → NamesBelow n terms → NamesBelow m terms
-NamesBelow-larger n m le terms below k d within = IfSome-below n m le (get_or terms k d).var (below k d within)
-
-pub AtomNamesBelow-larger : (n m : ℕ) → n ≤ m → (atoms : List Atom) → All (AtomNamesBelow n) atoms → All (AtomNamesBelow m) atoms
-AtomNamesBelow-larger n m le atoms below k d within =
-    let here = below k d within in
-    record { left = NamesBelow-larger n m le (get_or atoms k d).left here.left; right = NamesBelow-larger n m le (get_or atoms k d).right here.right }
+pub AtomsNameBelow-larger : (n m : ℕ) → n ≤ m → (atoms : List Atom) → All (AtomNamesBelow n) atoms → All (AtomNamesBelow m) atoms
+AtomsNameBelow-larger n m le atoms below k d within = AtomNamesBelow-larger n m le (get_or atoms k d) (below k d within)
 
 -- one more set behind those of the atoms so far
 pub sets_more : (atoms : List Atom) (sets : List VarSet) (i : ℕ) (atom : Atom) (set : VarSet) → i < length atoms → atom ≡ get_or atoms i atom → length sets ≡ i → ((k : ℕ) (a : Atom) (s : VarSet) → k < i → IsSetOf (get_or atoms k a) (get_or sets k s)) → IsSetOf atom set → (k : ℕ) (a : Atom) (s : VarSet) → k < i + 1 → IsSetOf (get_or atoms k a) (get_or (sets ++ set ∷ []) k s)

@@ -1,4 +1,4 @@
-use Rattle.box_solver.specs.Halving.{IsWidest}
+use Rattle.refutation.specs.Halving.{IsWidest}
 use Rattle.box_solver.proofs.halving.widest.Given as goal
 
 -- the widest so far

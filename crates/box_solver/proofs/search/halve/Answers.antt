@@ -1,4 +1,4 @@
-use Rattle.std.proofs.Common.{◌≡◌, ◌+◌, [], ◌∷◌, length, to_z, of_z, FitsSigned, ap, subst, ◌∙◌, rules, arith}
+use Rattle.std.proofs.Common.{◌≡◌, ◌+◌, ◌∷◌, length, to_z, of_z, FitsSigned, ap, ◌∙◌, rules, arith}
 use Rattle.std.specs.Int.{w64}
 use Rattle.std.proofs.lemmas.Int.{to_z-of_z}
 use Rattle.std.proofs.lemmas.Result.{IfOk-weaker}
@@ -6,8 +6,6 @@ use Rattle.refutation.specs.Bounds.{PlainBounds}
 use Rattle.refutation.specs.Box.{left_half, right_half}
 use Rattle.refutation.specs.declared.node.Node.TheVariants.{Split}
 use Rattle.refutation.specs.SearchOrder.{middle}
-use Rattle.lin_model.specs.Key.{key_width}
-use Rattle.box_solver.specs.Region.{Adds}
 use Rattle.box_solver.specs.Halving.{AddsHalving}
 use Rattle.box_solver.specs.Progress.{IsAt}
 use Rattle.box_solver.proofs.RegionLemmas.{grows-pushed}
@@ -46,9 +44,9 @@ returns-clause-halving c = λ box rest first.
     let within = c.bounds.ensures.bounds box rest first in
     let within_2 = c.bounds-2.ensures.bounds box rest first in
     let is : cut ≡ middle box.bounds v = to_z-of_z w64 c.middle-cut.result fits ∙ c.middle-cut.ensures ∙ ap (λ (d : PlainBounds). middle d v) within_2 in
-    let halving : AddsHalving box.bounds (key_width c.args.key.now) c.args.region.now c.push_node.new.self = record {
-      var = v;
-      is_widest = widest-of c.bounds.result.now box.bounds c.width.result _ v c.widest-var.ensures within c.width.ensures.width;
-      adds = subst (λ n. Adds c.args.region.now c.push_node.new.self (Split v n ∷ []) []) is (c.in_ok-push_node.ensures {u = tt});
+    let adds : AddsHalving c.args.key.now box.bounds c.args.region.now c.push_node.new.self = record {
+      node = Split v cut;
+      halving = record { var = v; is_widest = widest-of c.bounds.result.now box.bounds c.width.result _ v c.widest-var.ensures within c.width.ensures.width; at_middle = ap (Split v) is };
+      adds = c.in_ok-push_node.ensures {u = tt};
     } in
-    IfOk-weaker c.split.result (λ _. c.split.new.self ≡ left_half box v cut ∷ right_half box v cut ∷ rest) (λ _. AddsHalving box.bounds (key_width c.args.key.now) c.args.region.now c.push_node.new.self) (λ _ _. halving) (c.split.ensures box rest first)
+    IfOk-weaker c.split.result (λ _. c.split.new.self ≡ left_half box v cut ∷ right_half box v cut ∷ rest) (λ _. AddsHalving c.args.key.now box.bounds c.args.region.now c.push_node.new.self) (λ _ _. adds) (c.split.ensures box rest first)

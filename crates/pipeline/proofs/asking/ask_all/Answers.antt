@@ -1,5 +1,5 @@
-use Rattle.std.proofs.Common.{◌≡◌, ℕ, ◌<◌, ℤ, Some, List, [], length, take, arith, refl, subst, sym, ap, ◌∙◌, rules, Vec, Global}
-use Rattle.std.specs.List.{All, AllZip, Contains, slice_index}
+use Rattle.std.proofs.Common.{◌≡◌, ℕ, ◌<◌, ℤ, Some, List, length, take, arith, refl, subst, sym, ap, ◌∙◌, rules, Vec, Global}
+use Rattle.std.specs.List.{All, Contains, slice_index}
 use Rattle.std.proofs.lemmas.List.{take_all, length-take-le}
 use Rattle.lin_model.specs.Terms.{value_at}
 use Rattle.pipeline.specs.declared.slice_keys.SliceKey.{SliceKey}
@@ -7,10 +7,9 @@ use Rattle.pipeline.specs.declared.answer.PlainPart.{PlainPart}
 use Rattle.pipeline.specs.declared.answer.PlainPart.TheVariants.{Solved}
 use Rattle.pipeline.specs.declared.answer.Told.TheVariants.{Sat, UnsatSlice}
 use Rattle.pipeline.specs.Answers.{IsModelOf, IsRefuted, IsSpentOn, IsRightAnswer, Replies}
-use Rattle.pipeline.specs.Asking.{KeyLeaves}
 use Rattle.pipeline.proofs.KeyedLemmas.{front_more}
-use Rattle.pipeline.proofs.AskLemmas.{ask_model, ask_open, few_classes, asked_as, none_if, refilled}
-use Rattle.pipeline.proofs.SliceLemmas.{zip_length}
+use Rattle.pipeline.proofs.AskLemmas.{none_left, ask_model, ask_open, few_classes, asked_as, none_if, refilled}
+use Rattle.std.proofs.lemmas.Slice.Zip.{AllZip-long}
 use Rattle.pipeline.proofs.ClassLemmas.{keyed, others, declared_at}
 use Rattle.pipeline.proofs.VerdictLemmas.{right_unsat, right_unknown, right_sat}
 use Rattle.pipeline.proofs.asking.ask_all.Goals.{in-Model+in_ok-push-in-Model, in-Spent+in_ok-push-in-Spent}
@@ -19,10 +18,9 @@ use Rattle.pipeline.proofs.asking.ask_all.Goals as goal
 pub loop-s-init : goal.loop-s-init
 loop-s-init c = record {
   asked = record {
-    leaves = subst (AllZip (λ (k : SliceKey) (part : PlainPart). KeyLeaves c.args.budget k.key part) []) (sym c.new-parts.ensures) tt;
+    leaves = none_left c.args.budget c.in_ok-values.values.items _ c.new-parts.ensures;
     first = subst (All (λ (part : PlainPart). part ≡ Solved)) (sym c.new-parts.ensures) (λ k d lt. absurd (omega arith));
     long = let e = (c.in_ok-values.ensures {u = tt}).len in search rules;
-    met = λ none k d lt. absurd (omega arith);
   };
   region = refl;
 }
@@ -59,7 +57,7 @@ pub returns-in_err-push-in-Spent-clause-region : goal.returns-in_err-push-in-Spe
 returns-in_err-push-in-Spent-clause-region c = c.solve_key.ensures.region ∙ c.loop-s.invariant.region
 
 pub overflow_cast-number : goal.overflow_cast-number
-overflow_cast-number c = omega (arith, c.loop-s-test.true, zip_length _ _ _ c.requires.keyed.each, few_classes c.args.query.now c.requires.keyed.are.classes c.vars.ensures.fits c.requires.keyed.are.linked)
+overflow_cast-number c = omega (arith, c.loop-s-test.true, AllZip-long _ _ _ c.requires.keyed.each, few_classes c.args.query.now c.requires.keyed.are.classes c.vars.ensures.fits c.requires.keyed.are.linked)
 
 pub loop-s-preserved : goal.loop-s-preserved
 loop-s-preserved c =

@@ -1,6 +1,6 @@
 use Rattle.std.proofs.Common.{refl}
 use Rattle.slicer.specs.VarSets.{AreSetsOf}
-use Rattle.slicer.proofs.NamedLemmas.{AtomNamesBelow-larger}
+use Rattle.slicer.proofs.NamedLemmas.{AtomsNameBelow-larger}
 use Rattle.slicer.proofs.SetLemmas.{NamesNothingAt-sets}
 use Rattle.slicer.proofs.FrontLemmas.{IsFront-same}
 use Rattle.slicer.proofs.division.slices.Goals as goal
@@ -8,7 +8,7 @@ use Rattle.slicer.proofs.division.slices.Goals as goal
 pub sets_of_atoms-requires : goal.sets_of_atoms-requires
 sets_of_atoms-requires c =
     let fits = c.atoms.ensures.fits in
-    rw c.atoms.ensures.atoms (AtomNamesBelow-larger _ 64 fits.few_vars _ fits.in_range)
+    rw c.atoms.ensures.atoms (AtomsNameBelow-larger _ 64 fits.few_vars _ fits.in_range)
 
 pub returns : goal.returns
 returns c =
