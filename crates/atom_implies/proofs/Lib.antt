@@ -1,3 +1,3 @@
 mod TableLemmas
-pub mod ImpliedLemmas
+mod ImpliedLemmas
 mod Worked

@@ -1,3 +1,4 @@
 pub mod Implies
 pub mod Table
 pub mod Laws
+pub mod Facts

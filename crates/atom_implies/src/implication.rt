@@ -4,7 +4,7 @@ ghost use Rattle.atom_implies.specs.Implies.{Implies, HoldsWherever};
 ghost use Rattle.atom_implies.specs.Table.{table_says};
 
 use crate::steps::Steps;
-use lin_model::{FormTerm, KeyAtom, Op};
+use lin_model::{KeyAtom, Op};
 use std::sync::ledger::Ledger;
 
 /// Whether `a` implies `b`: both have one form, and no integer that passes the test of `a` fails that of `b`. It takes
@@ -22,17 +22,10 @@ pub fn implies<L: Ledger>(a: &KeyAtom, b: &KeyAtom, steps: &mut Steps<L>) -> boo
 fn is_implied(a: &KeyAtom, b: &KeyAtom) -> bool
     ensures { IsTrue result ↔ Implies a.now b.now }
 {
-    if !same_terms(a.form().terms(), b.form().terms()) {
+    if !a.form().equals(b.form()) {
         return false;
     }
     test_implies(a.op(), a.constant(), b.op(), b.constant())
-}
-
-/// Whether the terms are the same, one by one.
-fn same_terms(a: &[FormTerm], b: &[FormTerm]) -> bool
-    ensures { IsTrue result ↔ (a.now ≡ b.now) }
-{
-    a == b
 }
 
 /// Whether every integer that passes `a c` passes `b d`, by cases.

@@ -18,9 +18,9 @@ use Rattle.refutation.specs.Boxed.{HasShortSides}
 use Rattle.refutation.specs.Leaf.{fixed_closes, fails_fixed}
 use Rattle.refutation.specs.SearchOrder.{lowest_corner, lower_or_zero, upper_or_zero, spread}
 use Rattle.refutation.specs.Halving.{IsWidest}
+use Rattle.refutation.specs.Facts.{not_crossed}
 use Rattle.box_solver.specs.OneAtom.{NoFixedCloses}
 use Rattle.box_solver.specs.Progress.{IsSearchBox}
-use Rattle.refutation.proofs.SplitLemmas.{not_crossed}
 
 -- ---- one value for each variable
 

@@ -4,17 +4,16 @@ use Rattle.std.proofs.lemmas.Bool.{cases_lt, cases_Bool}
 use Rattle.std.proofs.lemmas.List.Elements.{All-head}
 use Rattle.lin_model.specs.KeyAtom.{PlainKeyAtom}
 use Rattle.lin_model.specs.Key.{IsKey, KeyHolds, key_width}
+use Rattle.lin_model.specs.Facts.{key-narrow}
 use Rattle.refutation.specs.declared.leaf.LeafTerm.{LeafTerm}
 use Rattle.refutation.specs.declared.node.Node.{Node}
 use Rattle.refutation.specs.declared.node.Node.TheVariants.{Split, Empty, Left}
 use Rattle.refutation.specs.Bounds.{key_bounds, is_empty}
 use Rattle.refutation.specs.Box.{PlainBox, root_box, left_half, right_half}
 use Rattle.refutation.specs.Boxed.{IsBoxed}
-use Rattle.refutation.specs.Laws.{OpenTreesAreBelowRoom}
+use Rattle.refutation.specs.Laws.{OpenTreesAreBelowRoom, CutsLeaveProperHalves, KeyBoundsAreShort, ClosedByAtomsOfTheKey}
 use Rattle.refutation.specs.SearchOrder.{lowest_corner, middle}
 use Rattle.refutation.specs.SearchTree.{halving, IsUndecided}
-use Rattle.refutation.proofs.BoundedLemmas.{key-narrow}
-use Rattle.refutation.proofs.BoxedLemmas.{key_bounds-short}
 use Rattle.box_solver.specs.declared.found.Found.TheVariants.{Model, Refuted, Spent}
 use Rattle.box_solver.specs.Laws.{HasAnswer}
 use Rattle.box_solver.specs.OneAtom.{node_by, terms_by}
@@ -25,11 +24,13 @@ use Rattle.box_solver.proofs.CornerLemmas.{corner-point}
 use Rattle.box_solver.proofs.MiddleLemmas.{some_widest, some_width}
 use Rattle.box_solver.proofs.DecisionLemmas.{next_step}
 
--- what makes a key one that `solve` takes, with the law of open trees
-record IsSolvable (key : List PlainKeyAtom) : Type 0 where
-  is_key : IsKey key
-  boxed : IsBoxed key
-  room : OpenTreesAreBelowRoom
+-- what makes a key one that `solve` takes, with the laws of its boxes and trees
+pub record IsSolvable (key : List PlainKeyAtom) : Type 0 where
+  pub is_key : IsKey key
+  pub boxed : IsBoxed key
+  pub room : OpenTreesAreBelowRoom
+  pub halves : CutsLeaveProperHalves
+  pub by_key : ClosedByAtomsOfTheKey
 
 -- ---- the three answers
 
@@ -66,8 +67,8 @@ answer_from (suc n) key budget splits nodes terms (box ∷ rest) solvable h few 
     let s = All-head (IsSearchBox key) box rest h.fit in
     ⊎_elim (λ closed. answer_from n key budget splits (nodes ++ node_by closed.0 ∷ []) (terms ++ terms_by closed.0) rest solvable (read-closed key splits nodes terms box rest closed.0 h closed.1) few (omega (arith, left))) (λ open_. ⊎_elim (λ holds. modelled key budget splits nodes terms box rest h few holds) (λ undecided. ⊎_elim (λ less. let widest = some_widest box.bounds (key_width key) (some_width key box h.narrow s undecided) in
     let cut = middle box.bounds widest.0 in
-    answer_from n key budget (splits + 1) (nodes ++ Split widest.0 cut ∷ []) (terms ++ []) (left_half box widest.0 cut ∷ right_half box widest.0 cut ∷ rest) solvable (read-split key splits nodes terms box rest widest.0 cut h undecided widest.1 refl) (omega (arith, less)) (omega (arith, less, left))) (λ used. spent key budget splits nodes terms box rest solvable h (omega (arith, used, few)) undecided) (cases_lt splits budget)) open_) (next_step key box s)
+    answer_from n key budget (splits + 1) (nodes ++ Split widest.0 cut ∷ []) (terms ++ []) (left_half box widest.0 cut ∷ right_half box widest.0 cut ∷ rest) solvable (read-split solvable.halves key splits nodes terms box rest widest.0 cut h undecided widest.1 refl) (omega (arith, less)) (omega (arith, less, left))) (λ used. spent key budget splits nodes terms box rest solvable h (omega (arith, used, few)) undecided) (cases_lt splits budget)) open_) (next_step solvable.by_key key box s)
 
-pub has_answer : (key : List PlainKeyAtom) (budget : ℕ) → IsKey key → IsBoxed key → OpenTreesAreBelowRoom → HasAnswer key budget
-has_answer key budget is boxed room =
-    ⊎_elim (λ empty'. record { found = Refuted; nodes = Empty ∷ []; terms = []; answer = empty-tree key budget empty' }) (λ full. answer_from (2 * budget + 1) key budget 0 [] [] (root_box key ∷ []) (record { is_key = is; boxed = boxed; room = room }) (read-start key (key-narrow key is) boxed (key_bounds-short key) full) (omega arith) (omega arith)) (cases_Bool (is_empty (key_bounds key)))
+pub has_answer : (key : List PlainKeyAtom) (budget : ℕ) → IsSolvable key → KeyBoundsAreShort → HasAnswer key budget
+has_answer key budget solvable short =
+    ⊎_elim (λ empty'. record { found = Refuted; nodes = Empty ∷ []; terms = []; answer = empty-tree key budget empty' }) (λ full. answer_from (2 * budget + 1) key budget 0 [] [] (root_box key ∷ []) solvable (read-start key (key-narrow key solvable.is_key) solvable.boxed (short key) full) (omega arith) (omega arith)) (cases_Bool (is_empty (key_bounds key)))

@@ -1,14 +1,14 @@
-pub mod ReadLemmas
-pub mod OneAtomLemmas
-pub mod HalvesLemmas
-pub mod CornerLemmas
-pub mod RegionLemmas
-pub mod StepLemmas
-pub mod MiddleLemmas
-pub mod StateLemmas
-pub mod AnswerLemmas
-pub mod LeftLemmas
-pub mod DecisionLemmas
-pub mod ExistenceLemmas
-pub mod RootLemmas
-pub mod Worked
+mod ReadLemmas
+mod OneAtomLemmas
+mod HalvesLemmas
+mod CornerLemmas
+mod RegionLemmas
+mod StepLemmas
+mod MiddleLemmas
+mod StateLemmas
+mod AnswerLemmas
+mod LeftLemmas
+mod DecisionLemmas
+mod ExistenceLemmas
+mod RootLemmas
+mod Worked

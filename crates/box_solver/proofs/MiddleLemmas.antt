@@ -4,14 +4,14 @@ use Rattle.std.proofs.lemmas.Bool.{cases_lt, false_from_ne_true}
 use Rattle.std.proofs.lemmas.Int.{ints, by_lt_z}
 use Rattle.lin_model.specs.KeyAtom.{PlainKeyAtom}
 use Rattle.lin_model.specs.Key.{key_width}
+use Rattle.lin_model.specs.Quotients.{floor_div}
 use Rattle.refutation.specs.Bounds.{PlainBounds}
 use Rattle.refutation.specs.Box.{PlainBox}
-use Rattle.lin_model.specs.Quotients.{floor_div}
 use Rattle.refutation.specs.Leaf.{ClosedByOneAtom, fixed, fixed_closes}
 use Rattle.refutation.specs.SearchOrder.{lower_or_zero, upper_or_zero, spread, middle}
 use Rattle.refutation.specs.SearchTree.{halving, IsUndecided}
 use Rattle.refutation.specs.Halving.{IsWidest}
-use Rattle.refutation.proofs.SplitLemmas.{IsCut}
+use Rattle.refutation.specs.Boxed.{IsCut}
 use Rattle.box_solver.specs.Progress.{IsSearchBox}
 use Rattle.box_solver.proofs.CornerLemmas.{widest-wide, flat-holds, sides-of}
 

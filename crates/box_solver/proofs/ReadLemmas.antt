@@ -6,6 +6,7 @@ use Rattle.std.proofs.lemmas.List.{take-append-le, drop-append-le, length-append
 use Rattle.std.proofs.lemmas.List.Sums.{sum_by-append}
 use Rattle.std.proofs.lemmas.Bool.{and_parts, or_parts, leb-true, le-leb}
 use Rattle.lin_model.specs.KeyAtom.{PlainKeyAtom}
+use Rattle.lin_model.specs.Lists.{chosen, Found-from}
 use Rattle.refutation.specs.declared.leaf.LeafTerm.{LeafTerm}
 use Rattle.refutation.specs.declared.node.Node.{Node}
 use Rattle.refutation.specs.declared.node.Node.TheVariants.{Split, NeSplit, Combo, Fixed, Empty, Left}
@@ -13,7 +14,6 @@ use Rattle.refutation.specs.Bounds.{is_empty}
 use Rattle.refutation.specs.Box.{PlainBox, left_half, right_half, on_side}
 use Rattle.refutation.specs.Leaf.{combo_closes, fixed_closes}
 use Rattle.refutation.specs.Reading.{Treated, treated, is_split, names_ne, reading, refuted, fails_at}
-use Rattle.refutation.proofs.LookUps.{chosen, some_and}
 use Rattle.refutation.specs.SearchTree.{Rule, KeepsRule, decided, Searches, boxes_left, is_left, is_inner, inner_count, NoInnerAfterLeft, FirstLeftIsUndecided, IsUndecided}
 
 -- ---- one node, with more terms behind
@@ -65,16 +65,16 @@ unfolding Searches boxes_left
 Searches-append rule key [] more terms terms' boxes h next = subst (λ (ts : List LeafTerm). Searches rule key more (ts ++ terms') boxes) (sym h) next
 Searches-append rule key (node ∷ nodes) more terms terms' [] h next = absurd h
 Searches-append rule key (node ∷ nodes) more terms terms' (box ∷ boxes) h next =
-    let on = some_and (decided key box node terms) (λ (r : Treated). Searches rule key nodes r.terms (r.boxes ++ boxes)) h.1 in
-    search-step rule key node (nodes ++ more) (terms ++ terms') box boxes (with_more on.0 terms') h.0 (decided-more key box node terms terms' on.0 on.1) (Searches-append rule key nodes more on.0.terms terms' (on.0.boxes ++ boxes) on.2 (subst (Searches rule key more terms') (left-step key node nodes terms box boxes on.0 on.1) next))
+    let on = Found-from (decided key box node terms) (λ (r : Treated). Searches rule key nodes r.terms (r.boxes ++ boxes)) h.1 in
+    search-step rule key node (nodes ++ more) (terms ++ terms') box boxes (with_more on.value terms') h.0 (decided-more key box node terms terms' on.value on.is) (Searches-append rule key nodes more on.value.terms terms' (on.value.boxes ++ boxes) on.holds (subst (Searches rule key more terms') (left-step key node nodes terms box boxes on.value on.is) next))
 
 pub boxes_left-append : (rule : Rule) (key : List PlainKeyAtom) (nodes more : List Node) (terms terms' : List LeafTerm) (boxes : List PlainBox) → Searches rule key nodes terms boxes → boxes_left key (nodes ++ more) (terms ++ terms') boxes ≡ boxes_left key more terms' (boxes_left key nodes terms boxes)
 unfolding Searches boxes_left
 boxes_left-append rule key [] more terms terms' boxes h = ap (λ (ts : List LeafTerm). boxes_left key more (ts ++ terms') boxes) h
 boxes_left-append rule key (node ∷ nodes) more terms terms' [] h = absurd h
 boxes_left-append rule key (node ∷ nodes) more terms terms' (box ∷ boxes) h =
-    let on = some_and (decided key box node terms) (λ (r : Treated). Searches rule key nodes r.terms (r.boxes ++ boxes)) h.1 in
-    left-step key node (nodes ++ more) (terms ++ terms') box boxes (with_more on.0 terms') (decided-more key box node terms terms' on.0 on.1) ∙ boxes_left-append rule key nodes more on.0.terms terms' (on.0.boxes ++ boxes) on.2 ∙ ap (boxes_left key more terms') (sym (left-step key node nodes terms box boxes on.0 on.1))
+    let on = Found-from (decided key box node terms) (λ (r : Treated). Searches rule key nodes r.terms (r.boxes ++ boxes)) h.1 in
+    left-step key node (nodes ++ more) (terms ++ terms') box boxes (with_more on.value terms') (decided-more key box node terms terms' on.value on.is) ∙ boxes_left-append rule key nodes more on.value.terms terms' (on.value.boxes ++ boxes) on.holds ∙ ap (boxes_left key more terms') (sym (left-step key node nodes terms box boxes on.value on.is))
 
 -- ---- a tree without Left
 
@@ -94,9 +94,9 @@ refuted-from_search rule key i [] terms boxes h no_left left =
     ap (reading key i [] terms) left ∙ ap (λ (ts : List LeafTerm). reading key i [] ts []) h
 refuted-from_search rule key i (node ∷ nodes) terms [] h no_left left = absurd h
 refuted-from_search rule key i (node ∷ nodes) terms (box ∷ boxes) h no_left left =
-    let on = some_and (decided key box node terms) (λ (r : Treated). Searches rule key nodes r.terms (r.boxes ++ boxes)) h.1 in
+    let on = Found-from (decided key box node terms) (λ (r : Treated). Searches rule key nodes r.terms (r.boxes ++ boxes)) h.1 in
     let none = or_parts (is_left node) (list_any is_left nodes) no_left in
-    ap (λ (o : Option Treated). option_map_or (λ (r : Treated). reading key (suc i) nodes r.terms (r.boxes ++ boxes)) o (fails_at i)) (sym (treats key box node terms none.0) ∙ on.1) ∙ refuted-from_search rule key (suc i) nodes on.0.terms (on.0.boxes ++ boxes) on.2 none.1 (sym (left-step key node nodes terms box boxes on.0 on.1) ∙ left)
+    ap (λ (o : Option Treated). option_map_or (λ (r : Treated). reading key (suc i) nodes r.terms (r.boxes ++ boxes)) o (fails_at i)) (sym (treats key box node terms none.0) ∙ on.is) ∙ refuted-from_search rule key (suc i) nodes on.value.terms (on.value.boxes ++ boxes) on.holds none.1 (sym (left-step key node nodes terms box boxes on.value on.is) ∙ left)
 
 -- ---- Left behind a tree without Left
 
@@ -120,9 +120,9 @@ first_left-append rule key [] more terms terms' boxes box rest h no_left left un
     subst (FirstLeftIsUndecided rule key (Left ∷ more) (terms ++ terms')) (sym left) undecided
 first_left-append rule key (node ∷ nodes) more terms terms' [] box rest h no_left left undecided = absurd h
 first_left-append rule key (node ∷ nodes) more terms terms' (first ∷ boxes) box rest h no_left left undecided =
-    let on = some_and (decided key first node terms) (λ (r : Treated). Searches rule key nodes r.terms (r.boxes ++ boxes)) h.1 in
+    let on = Found-from (decided key first node terms) (λ (r : Treated). Searches rule key nodes r.terms (r.boxes ++ boxes)) h.1 in
     let none = or_parts (is_left node) (list_any is_left nodes) no_left in
-    first_left-step rule key node (nodes ++ Left ∷ more) (terms ++ terms') first boxes (with_more on.0 terms') none.0 (sym (treats key first node (terms ++ terms') none.0) ∙ decided-more key first node terms terms' on.0 on.1) (first_left-append rule key nodes more on.0.terms terms' (on.0.boxes ++ boxes) box rest on.2 none.1 (sym (left-step key node nodes terms first boxes on.0 on.1) ∙ left) undecided)
+    first_left-step rule key node (nodes ++ Left ∷ more) (terms ++ terms') first boxes (with_more on.value terms') none.0 (sym (treats key first node (terms ++ terms') none.0) ∙ decided-more key first node terms terms' on.value on.is) (first_left-append rule key nodes more on.value.terms terms' (on.value.boxes ++ boxes) box rest on.holds none.1 (sym (left-step key node nodes terms first boxes on.value on.is) ∙ left) undecided)
 
 -- ---- Left for each box
 

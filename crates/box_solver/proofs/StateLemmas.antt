@@ -9,6 +9,7 @@ use Rattle.refutation.specs.declared.node.Node.TheVariants.{Split}
 use Rattle.refutation.specs.Bounds.{key_bounds, is_empty}
 use Rattle.refutation.specs.Box.{PlainBox, root_box, left_half, right_half}
 use Rattle.refutation.specs.Boxed.{IsBoxed, HasShortSides}
+use Rattle.refutation.specs.Laws.{CutsLeaveProperHalves, ClosedByAtomsOfTheKey}
 use Rattle.refutation.specs.SearchOrder.{lowest_corner, middle}
 use Rattle.refutation.specs.SearchTree.{halving, IsUndecided}
 use Rattle.refutation.specs.Halving.{IsWidest}
@@ -41,14 +42,14 @@ at-closed key base old new splits boxes boxes' box rest found first closes dropp
       next,
     )
 
-pub at-split : (key : List PlainKeyAtom) (base old new : PlainRegion) (splits : ℕ) (boxes boxes' : List PlainBox) (box : PlainBox) (rest : List PlainBox) (v : ℕ) (cut : ℤ) → boxes ≡ box ∷ rest → IsUndecided halving key box → IsWidest box.bounds (key_width key) v → cut ≡ middle box.bounds v → boxes' ≡ left_half box v cut ∷ right_half box v cut ∷ rest → Adds old new (Split v cut ∷ []) [] → IsAt key base old splits boxes → IsAt key base new (splits + 1) boxes' × (length boxes' ≡ length boxes + 1)
-at-split key base old new splits boxes boxes' box rest v cut first undecided w is halves adds h =
+pub at-split : CutsLeaveProperHalves → (key : List PlainKeyAtom) (base old new : PlainRegion) (splits : ℕ) (boxes boxes' : List PlainBox) (box : PlainBox) (rest : List PlainBox) (v : ℕ) (cut : ℤ) → boxes ≡ box ∷ rest → IsUndecided halving key box → IsWidest box.bounds (key_width key) v → cut ≡ middle box.bounds v → boxes' ≡ left_half box v cut ∷ right_half box v cut ∷ rest → Adds old new (Split v cut ∷ []) [] → IsAt key base old splits boxes → IsAt key base new (splits + 1) boxes' × (length boxes' ≡ length boxes + 1)
+at-split leave key base old new splits boxes boxes' box rest v cut first undecided w is halves adds h =
     let before : HasRead key splits h.nodes h.terms (box ∷ rest) = subst (HasRead key splits h.nodes h.terms) first h.read in (
       record {
         nodes = h.nodes ++ Split v cut ∷ [];
         terms = h.terms ++ [];
         adds = adds-adds base old new h.nodes (Split v cut ∷ []) h.terms [] h.adds adds;
-        read = subst (HasRead key (splits + 1) (h.nodes ++ Split v cut ∷ []) (h.terms ++ [])) (sym halves) (read-split key splits h.nodes h.terms box rest v cut before undecided w is);
+        read = subst (HasRead key (splits + 1) (h.nodes ++ Split v cut ∷ []) (h.terms ++ [])) (sym halves) (read-split leave key splits h.nodes h.terms box rest v cut before undecided w is);
       },
       omega (arith, ap length halves, ap length first),
     )
@@ -65,5 +66,5 @@ pub split-first : (key : List PlainKeyAtom) (boxes : List PlainBox) → FirstIsS
 split-first key [] h = absurd h
 split-first key (box ∷ boxes) h = (box, boxes, refl, h.0, h.1)
 
-pub is_undecided : (key : List PlainKeyAtom) (box : PlainBox) → IsSearchBox key box → NoAtomCloses key box → (KeyHolds key (lowest_corner key box.bounds) → ⊥) → IsUndecided halving key box
-is_undecided key box s none fails = record { not_by_one = not_by_one key box s.no_sides s.not_empty none; not_by_two = tt; corner_fails = fails }
+pub is_undecided : ClosedByAtomsOfTheKey → (key : List PlainKeyAtom) (box : PlainBox) → IsSearchBox key box → NoAtomCloses key box → (KeyHolds key (lowest_corner key box.bounds) → ⊥) → IsUndecided halving key box
+is_undecided by_key key box s none fails = record { not_by_one = not_by_one by_key key box s.no_sides s.not_empty none; not_by_two = tt; corner_fails = fails }

@@ -12,18 +12,18 @@ use Rattle.refutation.specs.declared.node.Node.{Node}
 use Rattle.refutation.specs.declared.node.Node.TheVariants.{Split, Combo, Fixed, Left}
 use Rattle.refutation.specs.Bounds.{key_bounds, is_empty}
 use Rattle.refutation.specs.Box.{PlainBox, root_box, left_half, right_half}
-use Rattle.refutation.specs.Boxed.{IsBoxed, HasShortSides}
+use Rattle.refutation.specs.Boxed.{IsBoxed, HasShortSides, IsCut}
 use Rattle.refutation.specs.Reading.{Treated, treated, Refutes}
 use Rattle.refutation.specs.SearchOrder.{lower_or_zero, upper_or_zero, middle}
 use Rattle.refutation.specs.SearchTree.{halving, KeepsRule, IsUndecided, decided, Searches, boxes_left, is_left, inner_count, IsOpenTree}
 use Rattle.refutation.specs.Halving.{IsWidest}
-use Rattle.refutation.proofs.SplitLemmas.{IsCut}
+use Rattle.refutation.specs.Laws.{CutsLeaveProperHalves}
 use Rattle.box_solver.specs.declared.one_atom.OneAtom.{OneAtom}
 use Rattle.box_solver.specs.declared.one_atom.OneAtom.TheVariants.{Term, Fixed as FixedAtom}
 use Rattle.box_solver.specs.OneAtom.{node_by, terms_by, ClosesBy}
 use Rattle.box_solver.specs.Progress.{IsSearchBox, HasRead}
 use Rattle.box_solver.proofs.ReadLemmas.{Searches-append, boxes_left-append, refuted-from_search, first_left-append, lefts-search, lefts-left, lefts-inner, inner_count-append, NoInnerAfterLeft-append}
-use Rattle.box_solver.proofs.HalvesLemmas.{cut-short, left-fits, right-fits, fair}
+use Rattle.box_solver.proofs.HalvesLemmas.{left-fits, right-fits, fair}
 use Rattle.box_solver.proofs.MiddleLemmas.{middle-cuts}
 
 -- ---- the start
@@ -76,13 +76,14 @@ split-treats key box v cut lt small =
     lawful : (w n m : ℕ) → w < 64 → n ≤ m → (nat_lt w 64 && nat_le n m) ≡ true
     lawful w n m f g = and_from (nat_lt w 64) (nat_le n m) (lt-ltb w 64 f) (le-leb n m g)
 
-pub read-split : (key : List PlainKeyAtom) (splits : ℕ) (nodes : List Node) (terms : List LeafTerm) (box : PlainBox) (rest : List PlainBox) (v : ℕ) (cut : ℤ) → HasRead key splits nodes terms (box ∷ rest) → IsUndecided halving key box → IsWidest box.bounds (key_width key) v → cut ≡ middle box.bounds v → HasRead key (splits + 1) (nodes ++ Split v cut ∷ []) (terms ++ []) (left_half box v cut ∷ right_half box v cut ∷ rest)
-read-split key splits nodes terms box rest v cut h undecided w at_middle =
+pub read-split : CutsLeaveProperHalves → (key : List PlainKeyAtom) (splits : ℕ) (nodes : List Node) (terms : List LeafTerm) (box : PlainBox) (rest : List PlainBox) (v : ℕ) (cut : ℤ) → HasRead key splits nodes terms (box ∷ rest) → IsUndecided halving key box → IsWidest box.bounds (key_width key) v → cut ≡ middle box.bounds v → HasRead key (splits + 1) (nodes ++ Split v cut ∷ []) (terms ++ []) (left_half box v cut ∷ right_half box v cut ∷ rest)
+read-split leave key splits nodes terms box rest v cut h undecided w at_middle =
     let s = All-head (IsSearchBox key) box rest h.fit in
     let lo = lower_or_zero box.bounds v in
     let hi = upper_or_zero box.bounds v in
     let is : IsCut box.bounds v lo hi cut = subst (IsCut box.bounds v lo hi) (sym at_middle) (middle-cuts key box v h.narrow s undecided w) in
-    read-node key splits nodes terms box rest (left_half box v cut ∷ right_half box v cut ∷ []) (Split v cut) [] h (record { fair = fair key box v lo hi cut w.below is s.not_empty; undecided = undecided; in_order = record { var = v; is_widest = w; at_middle = ap (Split v) at_middle } }) (split-treats key box v cut is.below (cut-short box.bounds v lo hi cut is s.short).0) refl (All-cons (IsSearchBox key) (left_half box v cut) (right_half box v cut ∷ []) (left-fits key box v lo hi cut is s) (All-cons (IsSearchBox key) (right_half box v cut) [] (right-fits key box v lo hi cut is s) (All-nil (IsSearchBox key))))
+    let halves = leave box.bounds v lo hi cut is in
+    read-node key splits nodes terms box rest (left_half box v cut ∷ right_half box v cut ∷ []) (Split v cut) [] h (record { fair = fair key box v cut w.below halves s.not_empty; undecided = undecided; in_order = record { var = v; is_widest = w; at_middle = ap (Split v) at_middle } }) (split-treats key box v cut is.below (halves.short_cut s.short)) refl (All-cons (IsSearchBox key) (left_half box v cut) (right_half box v cut ∷ []) (left-fits key box v cut halves s) (All-cons (IsSearchBox key) (right_half box v cut) [] (right-fits key box v cut halves s) (All-nil (IsSearchBox key))))
 
 -- ---- the end
 

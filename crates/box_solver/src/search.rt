@@ -19,7 +19,9 @@ use crate::one_atom::{OneAtom, closing_atom};
 use crate::region::TreeRegion;
 use lin_model::Key;
 use outside::NoMemory;
-use refutation::{Node, Walk, open_trees_are_below_room};
+use refutation::{
+    Node, Walk, closed_by_atoms_of_the_key, cuts_leave_proper_halves, open_trees_are_below_room,
+};
 use std::alloc::Global;
 
 /// Searches for a point that satisfies the key, with at most `budget` splits, and appends the search's tree to the region.
@@ -52,6 +54,8 @@ fn search(alloc: Global, key: &Key, budget: u32, region: &mut TreeRegion) -> Res
     ensures found { IfOk result (λ found. Answers key.now budget region.old region.new found) }
     ensures grows { Grows region.old region.new }
 {
+    closed_by_atoms_of_the_key();
+    open_trees_are_below_room();
     let mut walk = Walk::new(alloc, key);
     if walk.is_empty() {
         region.push_node(Node::Empty)?;
@@ -67,7 +71,6 @@ fn search(alloc: Global, key: &Key, budget: u32, region: &mut TreeRegion) -> Res
                     return Ok(Found::Model(values_of(&corner)));
                 }
                 if splits == budget {
-                    open_trees_are_below_room();
                     leave_open(&mut walk, region)?;
                     return Ok(Found::Spent);
                 }
@@ -114,6 +117,7 @@ fn halve(key: &Key, walk: &mut Walk, region: &mut TreeRegion) -> Result<(), NoMe
         → OnOk result (AddsHalving key.now box.bounds region.old region.new) }
     ensures grows { Grows region.old region.new }
 {
+    cuts_leave_proper_halves();
     let var = widest(walk.bounds(), key.width());
     let cut = middle(walk.bounds(), var);
     region.push_node(Node::Split { var, cut })?;

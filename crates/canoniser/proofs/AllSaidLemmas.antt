@@ -6,9 +6,9 @@ use Rattle.std.proofs.lemmas.Option.{get_or_from_slice_get}
 use Rattle.lin_model.specs.Conditions.{PlainCondition, IsCondition, AtomFits}
 use Rattle.lin_model.specs.declared.atom.Atom.{Atom}
 use Rattle.lin_model.specs.KeyAtom.{PlainKeyAtom, IsCanonical}
+use Rattle.lin_model.specs.Lists.{Found-at}
 use Rattle.slicer.specs.Laws.{HasNamed}
 use Rattle.slicer.specs.Slices.{PlainSlice}
-use Rattle.slicer.proofs.Lookups.{Found-at}
 use Rattle.canoniser.specs.Forms.{Outcome, always, never, says, ComesTo}
 use Rattle.canoniser.specs.Keys.{IsSliceIn}
 use Rattle.canoniser.specs.Numbering.{order_of}

@@ -1,23 +1,12 @@
--- Sums, products and whole quotients of integers.
+-- Negated products, sizes and whole quotients of integers.
 use Rattle.std.proofs.Common.{◌≡◌, ◌≢◌, ℕ, zero, suc, ◌+◌, ◌-◌, ◌*◌, ◌/◌, ◌%◌, ◌<◌, ◌↔◌, ℤ, pos, negsuc, ◌+ℤ◌, ◌*ℤ◌, neg_ℤ, ◌≤ℤ◌, unsigned_abs, ⊎_elim, refl, arith, ap}
 use Rattle.std.specs.Int.{◌∣◌}
 use Rattle.std.proofs.Math.Nat.{mul-le-mul_left, mod-lt, div-add-mod, mul-div_cancel'}
 use Rattle.std.proofs.lemmas.Bool.{cases_lt}
 use Rattle.std.proofs.lemmas.Int.{ints, by_lt_z}
-use borrow.Author.Differences.{up, down, sum_is_lem, product_is, neg_is, le_out}
+use borrow.Author.Differences.{up, down, neg_is}
 use Rattle.lin_model.specs.Quotients.{floor_div, ceil_div}
-
-pub distrib_right : (a b c : ℤ) → (a +ℤ b) *ℤ c ≡ (a *ℤ c) +ℤ (b *ℤ c)
-distrib_right a b c =
-    omega (arith, ints, ap (λ (x : ℕ). x * up c) (sum_is_lem a b), ap (λ (x : ℕ). x * down c) (sum_is_lem a b))
-
-pub distrib_left : (a b c : ℤ) → a *ℤ (b +ℤ c) ≡ (a *ℤ b) +ℤ (a *ℤ c)
-distrib_left a b c =
-    omega (arith, ints, ap (λ (x : ℕ). up a * x) (sum_is_lem b c), ap (λ (x : ℕ). down a * x) (sum_is_lem b c))
-
-pub times_assoc : (a b c : ℤ) → (a *ℤ b) *ℤ c ≡ a *ℤ (b *ℤ c)
-times_assoc a b c =
-    omega (arith, ints, ap (λ (x : ℕ). x * up c) (product_is a b).0, ap (λ (x : ℕ). x * down c) (product_is a b).0, ap (λ (x : ℕ). x * up c) (product_is a b).1, ap (λ (x : ℕ). x * down c) (product_is a b).1, ap (λ (x : ℕ). up a * x) (product_is b c).0, ap (λ (x : ℕ). down a * x) (product_is b c).0, ap (λ (x : ℕ). up a * x) (product_is b c).1, ap (λ (x : ℕ). down a * x) (product_is b c).1)
+use Rattle.lin_model.specs.Integers.{distrib_left, scale_up}
 
 pub neg_left : (a b : ℤ) → neg_ℤ a *ℤ b ≡ neg_ℤ (a *ℤ b)
 neg_left a b =
@@ -26,10 +15,6 @@ neg_left a b =
 pub neg_right : (a b : ℤ) → a *ℤ neg_ℤ b ≡ neg_ℤ (a *ℤ b)
 neg_right a b =
     omega (arith, ints, ap (λ (x : ℕ). up a * x) (neg_is b).0, ap (λ (x : ℕ). down a * x) (neg_is b).0, ap (λ (x : ℕ). up a * x) (neg_is b).1, ap (λ (x : ℕ). down a * x) (neg_is b).1)
-
--- a factor that isn't negative keeps the order
-pub scale_up : (n : ℕ) (x y : ℤ) → x ≤ℤ y → (pos n *ℤ x) ≤ℤ (pos n *ℤ y)
-scale_up n x y h = omega (arith, ints, mul-le-mul_left n (le_out x y h))
 
 -- the size of what isn't 0
 pub abs-positive : (z : ℤ) → z ≢ pos 0 → 0 < unsigned_abs z

@@ -13,9 +13,9 @@ use Rattle.lin_model.specs.declared.atom.Atom.{Atom}
 use Rattle.lin_model.specs.declared.form.FormTerm.{FormTerm}
 use Rattle.lin_model.specs.declared.op.Op.{Op}
 use Rattle.lin_model.specs.declared.op.Op.TheVariants.{Le, Ge, Eq, Ne}
-use Rattle.lin_model.proofs.FormLemmas.{same_from_IsGcdOf}
-use Rattle.canoniser.specs.Forms.{Outcome, always, never, says, gathered, oriented, divides, divided, reduced, IsOutcome, ComesTo}
+use Rattle.lin_model.specs.Facts.{same_from_IsGcdOf}
 use Rattle.lin_model.specs.Quotients.{floor_div, ceil_div}
+use Rattle.canoniser.specs.Forms.{Outcome, always, never, says, gathered, oriented, divides, divided, reduced, IsOutcome, ComesTo}
 use Rattle.canoniser.proofs.LimitsLemmas.{gcd-positive, narrow-oriented, IsGathered-gathered, IsOriented-oriented, IsCanonicalForm-divided}
 
 -- ---- sizes of quotients

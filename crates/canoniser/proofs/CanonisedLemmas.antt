@@ -7,9 +7,9 @@ use Rattle.lin_model.specs.declared.atom.Atom.{Atom}
 use Rattle.lin_model.specs.Truth.{AtomHolds}
 use Rattle.lin_model.specs.Form.{form_width}
 use Rattle.lin_model.specs.KeyAtom.{PlainKeyAtom, KeyAtomHolds}
-use Rattle.atom_implies.specs.Laws.{TableIsRight}
 use Rattle.slicer.specs.Laws.{HasNamed}
 use Rattle.slicer.specs.Slices.{PlainSlice}
+use Rattle.atom_implies.specs.Laws.{TableIsRight}
 use Rattle.canoniser.specs.Forms.{always, never, says, ComesTo}
 use Rattle.canoniser.specs.Numbering.{atoms_of, order_of}
 use Rattle.canoniser.specs.Keys.{IsGiven, IsStrongest, IsKeyOf}

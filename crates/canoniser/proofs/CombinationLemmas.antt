@@ -7,8 +7,9 @@ use Rattle.std.proofs.Math.IntN.{*ℤ_comm, pos-*ℤ-pos, *ℤ-one, *ℤ-zero}
 use Rattle.std.proofs.lemmas.Nat.Gcd.{dvd_refl, dvd-zero, dvd_trans}
 use Rattle.std.proofs.lemmas.Int.{ints}
 use Rattle.std.proofs.lemmas.Bool.Decides.{nat_tests}
-use Rattle.slicer.proofs.ElementLemmas.{Contains-first, Contains-later, Contains-cases}
-use Rattle.canoniser.proofs.Arithmetic.{times_assoc, distrib_left, distrib_right, neg_left, neg_right}
+use Rattle.lin_model.specs.Lists.{Contains-first, Contains-later, Contains-cases}
+use Rattle.lin_model.specs.Integers.{times_assoc, distrib_left, distrib_right}
+use Rattle.canoniser.proofs.Arithmetic.{neg_left, neg_right}
 use Rattle.canoniser.proofs.SideLemmas.{distinct-head, distinct-tail}
 
 -- ---- two numbers

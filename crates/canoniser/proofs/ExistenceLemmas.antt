@@ -4,9 +4,10 @@ use Rattle.std.specs.List.{All}
 use Rattle.std.proofs.lemmas.List.Elements.{All-contains, All-weaker, Contains-get_or}
 use Rattle.lin_model.specs.Conditions.{PlainCondition, IsCondition}
 use Rattle.lin_model.specs.KeyAtom.{PlainKeyAtom, IsCanonical}
-use Rattle.atom_implies.specs.Laws.{TableIsRight}
+use Rattle.lin_model.specs.AtomOrder.{IsAtomOrder}
 use Rattle.slicer.specs.Laws.{HasNamed, SlicesPartition}
 use Rattle.slicer.specs.Slices.{PlainSlice}
+use Rattle.atom_implies.specs.Laws.{TableIsRight}
 use Rattle.canoniser.specs.declared.canonical.Canonical.TheVariants.{False, Key}
 use Rattle.canoniser.specs.Keys.{IsSliceIn}
 use Rattle.canoniser.specs.Numbering.{order_of}
@@ -29,14 +30,14 @@ key_fits c order canonical key few fit is k d lt =
       | inr bound ↦ bound_fits c order a few is.vars_fit bound
     ]
 
-canonical_of : TableIsRight → (c : PlainCondition) (s : PlainSlice) → IsCondition c → HasNamed c s → IsSliceIn c s → SaidBefore c s (length s.atoms) → HasCanonical c s
-canonical_of right c s fits named one all =
+canonical_of : IsAtomOrder → TableIsRight → (c : PlainCondition) (s : PlainSlice) → IsCondition c → HasNamed c s → IsSliceIn c s → SaidBefore c s (length s.atoms) → HasCanonical c s
+canonical_of atom_order right c s fits named one all =
     let order = order_of c s in
     let ordered = IsOrder-slice c s order fits.fits named one refl in
     let possible = ArePossible-all c s order (length s.atoms) all.canonical refl refl all.said in
     let bounds = bounds_below c order ordered.declared (length order) (omega arith) in
     let given = all.canonical ++ bounds.atoms in
-    let strongest = strongest_exist right given in
+    let strongest = strongest_exist atom_order right given in
     let fit = vars_fit c order fits ordered.declared in
     let is = IsKeyWithBounds-joined c order all.canonical bounds.atoms given strongest.atoms refl bounds.just fit strongest.ascends strongest.just strongest.covers in
     let canonised = IsCanonised-made right c s order all.canonical strongest.atoms named refl possible is in
@@ -55,11 +56,11 @@ canonical_of right c s fits named one all =
       canonises = canonised;
     }
 
-pub keys_exist : TableIsRight → SlicesPartition → EachHasCanonical
-keys_exist right parts c s fits one =
+pub keys_exist : IsAtomOrder → TableIsRight → SlicesPartition → EachHasCanonical
+keys_exist atom_order right parts c s fits one =
     let named = HasNamed-slice parts c s fits.fits.in_range one in
     elim (said_before c s fits named one (length s.atoms) (omega arith)) [
-      | inl all ↦ canonical_of right c s fits named one all
+      | inl all ↦ canonical_of atom_order right c s fits named one all
       | inr some ↦ record {
         canonical = False some.number;
         limits = (

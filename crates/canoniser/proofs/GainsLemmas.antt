@@ -10,8 +10,8 @@ use Rattle.std.proofs.lemmas.Map.Views.{any-filter_same}
 use Rattle.std.proofs.lemmas.Option.{slice_get_past, slice_get_read}
 use Rattle.lin_model.specs.Terms.{PlainTerm}
 use Rattle.lin_model.specs.Conditions.{PlainCondition}
-use Rattle.slicer.specs.Slices.{PlainSlice}
 use Rattle.lin_model.specs.declared.atom.Atom.{Atom}
+use Rattle.slicer.specs.Slices.{PlainSlice}
 use Rattle.slicer.specs.Names.{side_vars, atom_vars}
 use Rattle.canoniser.specs.Numbering.{first_ones, order_of, Gains}
 

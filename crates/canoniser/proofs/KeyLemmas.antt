@@ -14,12 +14,12 @@ use Rattle.lin_model.specs.Form.{form_value, value_at}
 use Rattle.lin_model.specs.KeyAtom.{PlainKeyAtom, KeyAtomHolds}
 use Rattle.lin_model.specs.Key.{KeyHolds, Ascends}
 use Rattle.lin_model.specs.Bounded.{variable}
+use Rattle.lin_model.specs.Lists.{Found, Found-from, IsSomeAnd-found}
 use Rattle.atom_implies.specs.Implies.{Covers}
-use Rattle.atom_implies.proofs.ImpliedLemmas.{HoldsWherever-implied}
+use Rattle.atom_implies.specs.Facts.{HoldsWherever-implied}
 use Rattle.canoniser.specs.Keys.{upper_atom, lower_atom, IsBound, IsStrongest}
 use Rattle.canoniser.specs.Strongest.{IsKeyWithBounds, IsOneOf, VarsFit}
 use Rattle.canoniser.specs.Solutions.{point_of, KeepsBounds}
-use Rattle.slicer.proofs.Lookups.{Found, Found-from, IsSomeAnd-found}
 use Rattle.canoniser.proofs.ImplicationLemmas.{IsCovered, covered_has, Covers-each}
 
 -- the value of a variable alone

@@ -12,13 +12,13 @@ use Rattle.lin_model.specs.Form.{form_width}
 use Rattle.lin_model.specs.KeyAtom.{PlainKeyAtom}
 use Rattle.lin_model.specs.Key.{key_width}
 use Rattle.lin_model.specs.Bounded.{variable, GivesLower, GivesUpper, IsBounded}
-use Rattle.lin_model.proofs.KeyLemmas.{key_width-above}
+use Rattle.lin_model.specs.Facts.{key_width-above}
+use Rattle.lin_model.specs.Lists.{Found-from}
 use Rattle.atom_implies.specs.Implies.{Implies}
 use Rattle.atom_implies.specs.Table.{table_says}
 use Rattle.atom_implies.specs.Laws.{TableIsRight}
 use Rattle.canoniser.specs.Keys.{upper_atom, lower_atom, IsBound}
 use Rattle.canoniser.specs.Strongest.{IsKeyWithBounds}
-use Rattle.slicer.proofs.Lookups.{Found-from}
 use Rattle.canoniser.proofs.ImplicationLemmas.{IsCovered, covered_has}
 use Rattle.canoniser.proofs.KeyLemmas.{BoundsCovered-found}
 

@@ -17,12 +17,13 @@ use Rattle.lin_model.specs.declared.op.Op.{Op}
 use Rattle.lin_model.specs.Conditions.{AtomFits}
 use Rattle.lin_model.specs.Form.{IsGcdOf, DividesAll}
 use Rattle.lin_model.specs.KeyAtom.{PlainKeyAtom, BeginsPositive, HasSmallCoefficients, IsCanonicalForm}
+use Rattle.lin_model.specs.Quotients.{floor_div}
+use Rattle.lin_model.specs.Integers.{scale_up}
 use Rattle.canoniser.specs.Gathered.{coefficient, constant, loose}
 use Rattle.canoniser.specs.Forms.{terms_from, gathered, begins_negative, turned, oriented, divided}
-use Rattle.lin_model.specs.Quotients.{floor_div}
 use Rattle.canoniser.specs.Limits.{IsGathered, IsOriented}
 use Rattle.canoniser.proofs.GatheredLemmas.{factor_on-small, constants_of-small}
-use Rattle.canoniser.proofs.Arithmetic.{abs-positive, floor_div-exact, scale_up}
+use Rattle.canoniser.proofs.Arithmetic.{abs-positive, floor_div-exact}
 
 -- an atom by its parts
 pub same_parts : (form : List FormTerm) (op : Op) (constant : ℤ) (a : PlainKeyAtom) → form ≡ a.form → op ≡ a.op → constant ≡ a.constant → record { form = form; op = op; constant = constant } ≡ a

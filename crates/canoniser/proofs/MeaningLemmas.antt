@@ -19,12 +19,13 @@ use Rattle.lin_model.specs.declared.atom.Cmp.TheVariants.{Le, Lt, Ge, Gt, Eq, Ne
 use Rattle.lin_model.specs.declared.form.FormTerm.{FormTerm}
 use Rattle.lin_model.specs.declared.op.Op.{Op}
 use Rattle.lin_model.specs.declared.op.Op.TheVariants.{Le as AtMost, Ge as AtLeast, Eq as Equals, Ne as Differs}
+use Rattle.lin_model.specs.Quotients.{floor_div}
+use Rattle.lin_model.specs.Integers.{distrib_left, times_assoc, scale_up}
 use Rattle.slicer.specs.Names.{Names}
 use Rattle.canoniser.specs.Gathered.{constant, op_of, loose}
 use Rattle.canoniser.specs.Forms.{Outcome, always, never, says, terms_from, gathered, oriented, turned, turned_op, begins_negative, divides, divided, reduced, IsOutcome, ComesTo}
-use Rattle.lin_model.specs.Quotients.{floor_div}
 use Rattle.canoniser.specs.Solutions.{point_of, IsNever}
-use Rattle.canoniser.proofs.Arithmetic.{neg_left, distrib_left, times_assoc, floor_div-exact, floor_div-above, ceil_div-below, scale_up}
+use Rattle.canoniser.proofs.Arithmetic.{neg_left, floor_div-exact, floor_div-above, ceil_div-below}
 use Rattle.canoniser.proofs.LimitsLemmas.{gcd-positive, nonzero-oriented}
 use Rattle.canoniser.proofs.SideLemmas.{gathered_value}
 

@@ -5,11 +5,11 @@ use Rattle.std.proofs.lemmas.List.Elements.{Contains-append_cases, Contains-get_
 use Rattle.std.proofs.lemmas.Bool.{cases_Bool}
 use Rattle.lin_model.specs.Conditions.{PlainCondition}
 use Rattle.lin_model.specs.declared.atom.Atom.{Atom}
+use Rattle.lin_model.specs.Lists.{Contains-first, Contains-later, Contains-cases, nil_from_none}
 use Rattle.slicer.specs.Names.{Names, atom_vars, NamesNothingAt}
 use Rattle.slicer.specs.Linked.{Chain, alone, longer}
 use Rattle.slicer.specs.Laws.{HasNamed}
 use Rattle.slicer.specs.Slices.{PlainSlice, IsSliceOf, IsFront, least}
-use Rattle.slicer.proofs.ElementLemmas.{Contains-first, Contains-later, Contains-cases, nil_from_none}
 use Rattle.canoniser.specs.Numbering.{first_ones, atoms_of, order_of}
 use Rattle.canoniser.specs.Keys.{IsSliceIn}
 use Rattle.canoniser.proofs.SliceLemmas.{only}

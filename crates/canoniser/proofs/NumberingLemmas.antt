@@ -9,10 +9,10 @@ use Rattle.std.proofs.lemmas.Map.Steps.{length-le_from_distinct_below}
 use Rattle.std.proofs.lemmas.Map.Views.{Contains-from_any}
 use Rattle.lin_model.specs.Conditions.{PlainCondition, Fits}
 use Rattle.lin_model.specs.declared.atom.Atom.{Atom}
+use Rattle.lin_model.specs.Lists.{Contains-first, Contains-later, Contains-cases}
 use Rattle.slicer.specs.Names.{atom_vars, Names}
 use Rattle.slicer.specs.Slices.{PlainSlice}
 use Rattle.slicer.specs.Laws.{HasNamed}
-use Rattle.slicer.proofs.ElementLemmas.{Contains-first, Contains-later, Contains-cases}
 use Rattle.canoniser.specs.Numbering.{first_ones, atoms_of, order_of}
 use Rattle.canoniser.specs.Keys.{IsSliceIn}
 use Rattle.canoniser.proofs.GainsLemmas.{others}

@@ -8,7 +8,7 @@ use Rattle.lin_model.specs.declared.atom.Atom.{Atom}
 use Rattle.lin_model.specs.declared.form.FormTerm.{FormTerm}
 use Rattle.lin_model.specs.declared.op.Op.{Op}
 use Rattle.lin_model.specs.Form.{IsGcdOf}
-use Rattle.lin_model.proofs.FormLemmas.{IsGcdOf-none}
+use Rattle.lin_model.specs.Facts.{IsGcdOf-none}
 use Rattle.canoniser.specs.Forms.{Outcome, gathered, oriented, reduced, alone, IsOutcome, ComesTo}
 
 record GcdOfTwo (a b : ℕ) : Type 0 where

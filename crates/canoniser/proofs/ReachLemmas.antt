@@ -14,11 +14,12 @@ use Rattle.lin_model.specs.Form.{form_value, IsGcdOf, DividesAll}
 use Rattle.lin_model.specs.KeyAtom.{PlainKeyAtom}
 use Rattle.lin_model.specs.declared.atom.Atom.{Atom}
 use Rattle.lin_model.specs.declared.form.FormTerm.{FormTerm}
-use Rattle.slicer.proofs.ElementLemmas.{Contains-first, Contains-later, Contains-cases}
+use Rattle.lin_model.specs.Lists.{Contains-first, Contains-later, Contains-cases}
+use Rattle.lin_model.specs.Integers.{times_assoc}
 use Rattle.canoniser.specs.Gathered.{coefficient}
 use Rattle.canoniser.specs.Forms.{terms_from, gathered, oriented, turned, begins_negative}
 use Rattle.canoniser.specs.Solutions.{point_of}
-use Rattle.canoniser.proofs.Arithmetic.{times_assoc, neg_right}
+use Rattle.canoniser.proofs.Arithmetic.{neg_right}
 use Rattle.canoniser.proofs.LimitsLemmas.{All-chosen}
 use Rattle.canoniser.proofs.SideLemmas.{weighted, form_value-gathered}
 use Rattle.canoniser.proofs.MeaningLemmas.{turned-value}

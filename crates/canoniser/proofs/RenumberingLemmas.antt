@@ -12,16 +12,14 @@ use Rattle.lin_model.specs.declared.atom.Atom.{Atom}
 use Rattle.lin_model.specs.KeyAtom.{PlainKeyAtom}
 use Rattle.lin_model.specs.declared.op.Op.TheVariants.{Le, Ge}
 use Rattle.lin_model.specs.Bounded.{variable}
-use Rattle.slicer.specs.Names.{atom_vars}
+use Rattle.lin_model.specs.Lists.{nil_from_none, Found-at, Found-from, IsSomeAnd-found}
+use Rattle.slicer.specs.Names.{atom_vars, NamesDeclared}
 use Rattle.slicer.specs.Laws.{HasNamed, SlicesPartition}
-use Rattle.slicer.specs.Names.{NamesDeclared}
 use Rattle.slicer.specs.Slices.{PlainSlice}
 use Rattle.canoniser.specs.Forms.{never, says, ComesTo}
 use Rattle.canoniser.specs.Numbering.{first_ones, atoms_of, order_of}
 use Rattle.canoniser.specs.Keys.{IsSliceIn, IsBound, IsGiven, upper_atom, lower_atom}
 use Rattle.canoniser.specs.Laws.{HaveSameBounds, IsOneToOne, IsRenumbered, RenumberingKeepsKeys, renumbered}
-use Rattle.slicer.proofs.ElementLemmas.{nil_from_none}
-use Rattle.slicer.proofs.Lookups.{Found-at, Found-from, IsSomeAnd-found}
 use Rattle.canoniser.proofs.SliceLemmas.{IsWithin-slice, HasNamed-slice}
 use Rattle.canoniser.proofs.SelectLemmas.{belongs, belongs-tells, belongs-nothing, Selects-slice, atoms_of-selected}
 use Rattle.canoniser.proofs.NumberingLemmas.{Contains-first_ones, order_of-below}

@@ -7,6 +7,7 @@ use Rattle.std.proofs.lemmas.List.Elements.{filter-append, All-append, All-take,
 use Rattle.std.proofs.lemmas.Bool.{cases_Bool}
 use Rattle.lin_model.specs.Conditions.{PlainCondition, AtomNamesBelow}
 use Rattle.lin_model.specs.declared.atom.Atom.{Atom}
+use Rattle.lin_model.specs.Lists.{Found-at}
 use Rattle.slicer.specs.Names.{atom_vars, NamesDeclared}
 use Rattle.slicer.specs.Laws.{HasNamed, SlicesPartition}
 use Rattle.slicer.specs.Slices.{PlainSlice}
@@ -15,7 +16,6 @@ use Rattle.canoniser.specs.Keys.{IsSliceIn}
 use Rattle.canoniser.specs.Laws.{repeated, RepeatingKeepsKeys}
 use Rattle.canoniser.proofs.GainsLemmas.{Gains-known, Gains-new, Gains-none, Gains-more}
 use Rattle.canoniser.proofs.NumberingLemmas.{Contains-first_ones}
-use Rattle.slicer.proofs.Lookups.{Found-at}
 use Rattle.canoniser.proofs.SliceLemmas.{HasNamed-slice}
 use Rattle.canoniser.proofs.SelectLemmas.{is_among, is_among-tells, belongs, Selects-slice, atoms_of-selected}
 use Rattle.canoniser.proofs.SameKeyLemmas.{AreAlike, HaveSameKeys-alike}

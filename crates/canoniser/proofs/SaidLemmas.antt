@@ -11,12 +11,12 @@ use Rattle.std.proofs.lemmas.Option.{slice_get_within, get_or_from_slice_get}
 use Rattle.lin_model.specs.Conditions.{PlainCondition, AtomNamesBelow, Fits}
 use Rattle.lin_model.specs.declared.atom.Atom.{Atom}
 use Rattle.lin_model.specs.KeyAtom.{PlainKeyAtom}
-use Rattle.lin_model.proofs.NamesLemmas.{AtomNamesBelow-larger}
+use Rattle.lin_model.specs.Facts.{AtomNamesBelow-larger}
+use Rattle.lin_model.specs.Lists.{IsSomeAnd-found}
 use Rattle.slicer.specs.Slices.{PlainSlice}
 use Rattle.canoniser.specs.Forms.{always, says, ComesTo}
 use Rattle.canoniser.specs.Solutions.{IsNever, IsNeverAt, IsFirstNever}
 use Rattle.canoniser.specs.Said.{AreSaid}
-use Rattle.slicer.proofs.Lookups.{IsSomeAnd-found}
 
 -- the atoms of these numbers
 abbrev pub atoms_at : PlainCondition → List ℕ → List Atom

@@ -9,7 +9,7 @@ use Rattle.std.proofs.lemmas.Nat.Gcd.{IsGcd-from_mod, IsGcd-from_zero, dvd_trans
 use Rattle.std.proofs.lemmas.List.{get_or-map, length-map}
 use Rattle.std.proofs.lemmas.Int.{ints, unsigned_abs-mul}
 use Rattle.std.proofs.lemmas.List.Elements.{All-nil, All-cons, All-head, All-tail, All-map}
-use Rattle.lin_model.proofs.FormLemmas.{same_from_IsGcdOf}
+use Rattle.lin_model.specs.Facts.{same_from_IsGcdOf}
 use Rattle.lin_model.specs.Form.{IsGcdOf, DividesAll}
 use Rattle.lin_model.specs.Test.{passes}
 use Rattle.lin_model.specs.KeyAtom.{PlainKeyAtom}
@@ -18,10 +18,11 @@ use Rattle.lin_model.specs.declared.atom.Cmp.TheVariants.{Le}
 use Rattle.lin_model.specs.declared.form.FormTerm.{FormTerm}
 use Rattle.lin_model.specs.declared.op.Op.{Op}
 use Rattle.lin_model.specs.declared.op.Op.TheVariants.{Le as AtMost, Ge as AtLeast, Eq as Equals, Ne as Differs}
-use Rattle.canoniser.specs.Forms.{Outcome, always, never, says, gathered, oriented, divides, divided, reduced, alone, IsOutcome, ComesTo}
 use Rattle.lin_model.specs.Quotients.{floor_div, ceil_div}
+use Rattle.lin_model.specs.Integers.{times_assoc}
+use Rattle.canoniser.specs.Forms.{Outcome, always, never, says, gathered, oriented, divides, divided, reduced, alone, IsOutcome, ComesTo}
 use Rattle.canoniser.specs.Factors.{times}
-use Rattle.canoniser.proofs.Arithmetic.{times_assoc, floor_div-above, ceil_div-below}
+use Rattle.canoniser.proofs.Arithmetic.{floor_div-above, ceil_div-below}
 use Rattle.canoniser.proofs.LimitsLemmas.{gcd-positive, nonzero-oriented}
 use Rattle.canoniser.proofs.MeaningLemmas.{Passes, passes-tells, times_same, divisor_from_test}
 use Rattle.canoniser.proofs.ScalingLemmas.{scaled, Matches, same_bool, times_le, loose-matches, IsTimes, IsTimes-oriented}

@@ -13,11 +13,12 @@ use Rattle.lin_model.specs.declared.atom.Cmp.TheVariants.{Le, Lt, Ge, Gt, Eq, Ne
 use Rattle.lin_model.specs.declared.form.FormTerm.{FormTerm}
 use Rattle.lin_model.specs.declared.op.Op.{Op}
 use Rattle.lin_model.specs.declared.op.Op.TheVariants.{Le as AtMost, Ge as AtLeast, Eq as Equals, Ne as Differs}
+use Rattle.lin_model.specs.Integers.{distrib_left, scale_up}
 use Rattle.slicer.specs.Names.{side_vars, atom_vars}
 use Rattle.canoniser.specs.Gathered.{is_on, factor_on, constants_of, coefficient, constant, op_of, loose}
 use Rattle.canoniser.specs.Forms.{terms_from, gathered, oriented, turned, turned_op, begins_negative}
 use Rattle.canoniser.specs.Factors.{times_side, times}
-use Rattle.canoniser.proofs.Arithmetic.{distrib_left, neg_right, scale_up}
+use Rattle.canoniser.proofs.Arithmetic.{neg_right}
 use Rattle.canoniser.proofs.MeaningLemmas.{times_same}
 
 -- ---- sides

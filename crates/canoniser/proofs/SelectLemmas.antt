@@ -11,15 +11,14 @@ use Rattle.std.proofs.lemmas.Bool.Decides.{eqb_tells, Decides-eqb}
 use Rattle.std.proofs.lemmas.Option.{slice_get_read}
 use Rattle.lin_model.specs.Conditions.{PlainCondition}
 use Rattle.lin_model.specs.declared.atom.Atom.{Atom}
+use Rattle.lin_model.specs.Lists.{Contains-cases, Found-from, IsSomeAnd-found, within_from_IsSomeAnd}
 use Rattle.slicer.specs.Names.{Names, NamesNothingAt, atom_vars}
 use Rattle.slicer.specs.Linked.{alone}
 use Rattle.slicer.specs.Laws.{HasNamed}
 use Rattle.slicer.specs.Slices.{PlainSlice, IsSliceOf, IsVariableFree, IsFront, least}
-use Rattle.slicer.proofs.ElementLemmas.{Contains-cases}
 use Rattle.canoniser.specs.Keys.{IsSliceIn}
 use Rattle.canoniser.specs.Numbering.{atoms_of}
 use Rattle.canoniser.proofs.SliceLemmas.{only}
-use Rattle.slicer.proofs.Lookups.{Found-from, IsSomeAnd-found, within_from_IsSomeAnd}
 
 -- a number is among the numbers
 abbrev pub is_among : List ℕ → ℕ → Bool

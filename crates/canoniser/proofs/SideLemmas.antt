@@ -12,12 +12,13 @@ use Rattle.lin_model.specs.Terms.{PlainTerm, value_at, weight, value_of}
 use Rattle.lin_model.specs.Form.{form_value}
 use Rattle.lin_model.specs.declared.atom.Atom.{Atom}
 use Rattle.lin_model.specs.declared.form.FormTerm.{FormTerm}
+use Rattle.lin_model.specs.Lists.{Contains-first, Contains-later, Contains-cases}
+use Rattle.lin_model.specs.Integers.{distrib_right}
 use Rattle.slicer.specs.Names.{side_vars, Names}
-use Rattle.slicer.proofs.ElementLemmas.{Contains-first, Contains-later, Contains-cases}
 use Rattle.canoniser.specs.Gathered.{is_on, factor_on, constants_of, coefficient, constant}
 use Rattle.canoniser.specs.Forms.{terms_from}
 use Rattle.canoniser.specs.Solutions.{point_of}
-use Rattle.canoniser.proofs.Arithmetic.{distrib_right, neg_left}
+use Rattle.canoniser.proofs.Arithmetic.{neg_left}
 
 -- ---- lists of distinct numbers
 

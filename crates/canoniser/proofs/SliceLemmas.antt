@@ -4,11 +4,11 @@ use Rattle.std.specs.List.{AllPairs, Contains}
 use Rattle.std.proofs.lemmas.List.Elements.{Contains-append_cases, Contains-get_or, All-contains}
 use Rattle.lin_model.specs.Conditions.{PlainCondition, Fits}
 use Rattle.lin_model.specs.declared.atom.Atom.{Atom}
+use Rattle.lin_model.specs.Lists.{within_from_IsSomeAnd}
 use Rattle.slicer.specs.Names.{Names, atom_vars, NamesNothingAt, NamesDeclared}
 use Rattle.slicer.specs.Laws.{HasNamed, SlicesPartition}
 use Rattle.slicer.specs.Slices.{PlainSlice, IsSliceOf, IsVariableFree, IsFront, least}
 use Rattle.canoniser.specs.Keys.{IsSliceIn}
-use Rattle.slicer.proofs.Lookups.{within_from_IsSomeAnd}
 
 -- an atom names only variables of the list
 abbrev pub NamesOnly : List ℕ → Atom → Type 0

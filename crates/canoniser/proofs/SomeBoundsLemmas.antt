@@ -9,7 +9,7 @@ use Rattle.lin_model.specs.Terms.{VarFits}
 use Rattle.lin_model.specs.Conditions.{PlainCondition, IsCondition}
 use Rattle.lin_model.specs.declared.op.Op.TheVariants.{Le, Ge}
 use Rattle.lin_model.specs.KeyAtom.{PlainKeyAtom, IsCanonical}
-use Rattle.slicer.proofs.Lookups.{Found-at, Found-from, IsSomeAnd-found}
+use Rattle.lin_model.specs.Lists.{Found-at, Found-from, IsSomeAnd-found}
 use Rattle.canoniser.specs.Keys.{IsBound, upper_atom, lower_atom}
 use Rattle.canoniser.specs.Strongest.{VarsFit}
 use Rattle.canoniser.proofs.BoundLemmas.{AreBounds, AreBounds-none, AreBounds-more, IsCanonical-variable}

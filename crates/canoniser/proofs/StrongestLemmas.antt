@@ -12,9 +12,8 @@ use Rattle.std.proofs.lemmas.Bool.{cases_lt}
 use Rattle.lin_model.specs.declared.form.FormTerm.{FormTerm}
 use Rattle.lin_model.specs.declared.op.Op.TheVariants.{Le}
 use Rattle.lin_model.specs.KeyAtom.{PlainKeyAtom}
-use Rattle.lin_model.specs.AtomOrder.{compare_forms, compare_atoms}
+use Rattle.lin_model.specs.AtomOrder.{compare_forms, compare_atoms, IsAtomOrder}
 use Rattle.lin_model.specs.Key.{Ascends}
-use Rattle.lin_model.proofs.OrderLemmas.{compare_atoms-total, compare_atoms-apart}
 use Rattle.atom_implies.specs.Laws.{TableIsRight}
 use Rattle.atom_implies.specs.Implies.{Implies, Covers}
 use Rattle.canoniser.specs.Keys.{IsStrongest}
@@ -23,14 +22,14 @@ use Rattle.canoniser.proofs.PartLemmas.{IsPartOf-trans, IsPartOf-reverse}
 use Rattle.canoniser.proofs.ImplicationLemmas.{covered_has, Covers-each, Covers-from_each, IsCovered-more, IsCovered-trans, Implies-refl, Implies-trans, Implies-antisym}
 
 -- of two places of a sorted list the later has no lesser atom
-sorted_later : (xs : List PlainKeyAtom) → IsSorted compare_atoms xs → (i j : ℕ) (d : PlainKeyAtom) → i ≤ j → j < length xs → is_lt (compare_atoms (get_or xs j d) (get_or xs i d)) ≡ false
-sorted_later xs sorted = sorted_far (λ x y. is_lt (compare_atoms x y)) (ranks_by compare_atoms-total (λ (a : PlainKeyAtom). a)) xs sorted
+sorted_later : IsAtomOrder → (xs : List PlainKeyAtom) → IsSorted compare_atoms xs → (i j : ℕ) (d : PlainKeyAtom) → i ≤ j → j < length xs → is_lt (compare_atoms (get_or xs j d) (get_or xs i d)) ≡ false
+sorted_later order xs sorted = sorted_far (λ x y. is_lt (compare_atoms x y)) (ranks_by order.total (λ (a : PlainKeyAtom). a)) xs sorted
 
 -- one that is not less than another, and isn't the other, comes after it
-less_from_not : (a b : PlainKeyAtom) (o : Ordering) → compare_atoms b a ≡ o → is_lt o ≡ false → a ≢ b → compare_atoms a b ≡ Less
-less_from_not a b Less is not_less differ = absurd (cc)
-less_from_not a b Equal is not_less differ = absurd (differ (sym (compare_atoms-apart b a is)))
-less_from_not a b Greater is not_less differ = compare_atoms-total.antisymm a b ∙ ap ordering_reverse is
+less_from_not : IsAtomOrder → (a b : PlainKeyAtom) (o : Ordering) → compare_atoms b a ≡ o → is_lt o ≡ false → a ≢ b → compare_atoms a b ≡ Less
+less_from_not order a b Less is not_less differ = absurd (cc)
+less_from_not order a b Equal is not_less differ = absurd (differ (sym (order.apart b a is)))
+less_from_not order a b Greater is not_less differ = order.total.antisymm a b ∙ ap ordering_reverse is
 
 -- the plainest atom of a form
 abbrev pub plain : List FormTerm → PlainKeyAtom
@@ -51,34 +50,34 @@ pub compare_plain : (f g : List FormTerm) → compare_atoms (plain f) (plain g) 
 compare_plain f g = then_equal (compare_forms f g)
 
 -- forms of which neither is less are the same
-same_forms : (f g : List FormTerm) (o : Ordering) → compare_forms f g ≡ o → is_lt o ≡ false → is_lt (compare_forms g f) ≡ false → f ≡ g
-same_forms f g Less is not_less not_more = absurd (cc)
-same_forms f g Equal is not_less not_more = ap (λ (a : PlainKeyAtom). a.form) (compare_atoms-apart (plain f) (plain g) (compare_plain f g ∙ is))
-same_forms f g Greater is not_less not_more =
-    let back : compare_forms g f ≡ Less = sym (compare_plain g f) ∙ compare_atoms-total.antisymm (plain g) (plain f) ∙ ap ordering_reverse (compare_plain f g ∙ is) in
+same_forms : IsAtomOrder → (f g : List FormTerm) (o : Ordering) → compare_forms f g ≡ o → is_lt o ≡ false → is_lt (compare_forms g f) ≡ false → f ≡ g
+same_forms order f g Less is not_less not_more = absurd (cc)
+same_forms order f g Equal is not_less not_more = ap (λ (a : PlainKeyAtom). a.form) (order.apart (plain f) (plain g) (compare_plain f g ∙ is))
+same_forms order f g Greater is not_less not_more =
+    let back : compare_forms g f ≡ Less = sym (compare_plain g f) ∙ order.total.antisymm (plain g) (plain f) ∙ ap ordering_reverse (compare_plain f g ∙ is) in
     let less : is_lt (compare_forms g f) ≡ true = ap is_lt back in
     absurd (cc)
 
 -- atoms of one form stand beside one another in a sorted list
-pub StandTogether-sorted : (xs : List PlainKeyAtom) → IsSorted compare_atoms xs → StandTogether xs
-StandTogether-sorted xs sorted i j k d one two within same =
+pub StandTogether-sorted : IsAtomOrder → (xs : List PlainKeyAtom) → IsSorted compare_atoms xs → StandTogether xs
+StandTogether-sorted order xs sorted i j k d one two within same =
     let a = get_or xs i d in
     let b = get_or xs j d in
     let c = get_or xs k d in
-    let low = not_less_forms b a (compare_forms b.form a.form) refl (sorted_later xs sorted i j d (omega arith) (omega arith)) in
-    let high = not_less_forms c b (compare_forms c.form b.form) refl (sorted_later xs sorted j k d (omega arith) within) in
-    same_forms b.form c.form (compare_forms b.form c.form) refl (subst (λ (f : List FormTerm). is_lt (compare_forms b.form f) ≡ false) same low) high
+    let low = not_less_forms b a (compare_forms b.form a.form) refl (sorted_later order xs sorted i j d (omega arith) (omega arith)) in
+    let high = not_less_forms c b (compare_forms c.form b.form) refl (sorted_later order xs sorted j k d (omega arith) within) in
+    same_forms order b.form c.form (compare_forms b.form c.form) refl (subst (λ (f : List FormTerm). is_lt (compare_forms b.form f) ≡ false) same low) high
 
 -- a part of a sorted list in which no atom implies a later one ascends
-pub Ascends-part : (part whole : List PlainKeyAtom) → IsPartOf part whole → IsSorted compare_atoms whole → AllPairs (λ a b. ¬ Implies a b) part → Ascends part
-Ascends-part part whole is sorted apart k d lt =
+pub Ascends-part : IsAtomOrder → (part whole : List PlainKeyAtom) → IsPartOf part whole → IsSorted compare_atoms whole → AllPairs (λ a b. ¬ Implies a b) part → Ascends part
+Ascends-part order part whole is sorted apart k d lt =
     let a = get_or part k d in
     let b = get_or part (k + 1) d in
     let differ : a ≢ b = λ same. apart k (k + 1) d (omega arith) lt (subst (λ (x : PlainKeyAtom). Implies a x) same (Implies-refl a)) in
     let up = is.ascends k (k + 1) (omega arith) lt in
-    let far = sorted_later whole sorted (is.place k) (is.place (k + 1)) d (omega arith) (is.within (k + 1) lt) in
+    let far = sorted_later order whole sorted (is.place k) (is.place (k + 1)) d (omega arith) (is.within (k + 1) lt) in
     let here : is_lt (compare_atoms b a) ≡ false = rw (is.same k d (omega arith), is.same (k + 1) d lt) far in
-    less_from_not a b (compare_atoms b a) refl here differ
+    less_from_not order a b (compare_atoms b a) refl here differ
 
 -- two atoms of the list of which one implies the other are the same
 same_from_apart : (key : List PlainKeyAtom) → AllPairs (λ a b. ¬ Implies a b) key → AllPairs (λ a b. ¬ Implies b a) key → (a b : PlainKeyAtom) → Contains key a → Contains key b → Implies a b → a ≡ b

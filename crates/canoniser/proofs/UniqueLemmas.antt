@@ -8,6 +8,8 @@ use Rattle.std.proofs.lemmas.List.Elements.{All-contains}
 use Rattle.lin_model.specs.Conditions.{PlainCondition}
 use Rattle.lin_model.specs.declared.atom.Atom.{Atom}
 use Rattle.lin_model.specs.KeyAtom.{PlainKeyAtom}
+use Rattle.lin_model.specs.AtomOrder.{IsAtomOrder}
+use Rattle.lin_model.specs.Lists.{Found-from}
 use Rattle.slicer.specs.Slices.{PlainSlice}
 use Rattle.canoniser.specs.declared.canonical.Canonical.{Canonical}
 use Rattle.canoniser.specs.declared.canonical.Canonical.TheVariants.{False, Key}
@@ -17,16 +19,15 @@ use Rattle.canoniser.specs.Keys.{IsKeyOf}
 use Rattle.canoniser.specs.OneKey.{KeysAreUnique}
 use Rattle.canoniser.specs.Numbering.{atoms_of, order_of}
 use Rattle.canoniser.specs.Solutions.{IsNever, IsFirstNever}
-use Rattle.slicer.proofs.Lookups.{Found-from}
 use Rattle.canoniser.proofs.NumberingLemmas.{order_of-distinct, order_of-names}
 use Rattle.canoniser.proofs.OutcomeLemmas.{outcomes_exist}
 use Rattle.canoniser.proofs.PossibleLemmas.{says-is-possible, always-is-possible}
 use Rattle.canoniser.proofs.SortedLemmas.{same_from_Ascends}
 use Rattle.canoniser.proofs.TurnLemmas.{Contains-filter_map}
 
-one_key : (c : PlainCondition) (s : PlainSlice) (one other : List PlainKeyAtom) → IsKeyOf c s one → IsKeyOf c s other → one ≡ other
-one_key c s one other a b =
-    same_from_Ascends one other a.ascends b.ascends (λ x. (λ has. (b.just x).1 ((a.just x).0 has), λ has. (a.just x).1 ((b.just x).0 has)))
+one_key : IsAtomOrder → (c : PlainCondition) (s : PlainSlice) (one other : List PlainKeyAtom) → IsKeyOf c s one → IsKeyOf c s other → one ≡ other
+one_key atom_order c s one other a b =
+    same_from_Ascends atom_order one other a.ascends b.ascends (λ x. (λ has. (b.just x).1 ((a.just x).0 has), λ has. (a.just x).1 ((b.just x).0 has)))
 
 one_first : (c : PlainCondition) (s : PlainSlice) (i j : ℕ) → IsFirstNever c s i → IsFirstNever c s j → i ≡ j
 one_first c s i j a b = elim (eqb_tells i j) [
@@ -59,14 +60,14 @@ not_both c s key j is first =
     let has = Contains-filter_map (λ (n : ℕ). slice_get c.atoms n) s.atoms place.0 found.value place.1 (subst (λ (n : ℕ). slice_get c.atoms n ≡ Some found.value) (sym number) found.is) in
     All-contains (λ atom. ¬ ComesTo (order_of c s) atom never) (atoms_of c s) found.value is.defined has (comes_to_never c s found.value has found.holds)
 
-one_canonical : (c : PlainCondition) (s : PlainSlice) (one other : Canonical) → Canonises c s one → Canonises c s other → one ≡ other
-one_canonical c s (False i) (False j) a b = λ k. False (one_first c s i j a b k)
-one_canonical c s (False i) (Key key order) a b = absurd (not_both c s key i b.is_key a)
-one_canonical c s (Key key order) (False j) a b = absurd (not_both c s key j a.is_key b)
-one_canonical c s (Key one order) (Key other more) a b =
-    let key = one_key c s one other a.is_key b.is_key in
+one_canonical : IsAtomOrder → (c : PlainCondition) (s : PlainSlice) (one other : Canonical) → Canonises c s one → Canonises c s other → one ≡ other
+one_canonical atom_order c s (False i) (False j) a b = λ k. False (one_first c s i j a b k)
+one_canonical atom_order c s (False i) (Key key order) a b = absurd (not_both c s key i b.is_key a)
+one_canonical atom_order c s (Key key order) (False j) a b = absurd (not_both c s key j a.is_key b)
+one_canonical atom_order c s (Key one order) (Key other more) a b =
+    let key = one_key atom_order c s one other a.is_key b.is_key in
     let same = a.numbered ∙ sym b.numbered in
     λ k. Key (key k) (same k)
 
-pub keys_are_unique : KeysAreUnique
-keys_are_unique c s = record { one = one_canonical c s; one_key = one_key c s; not_both = not_both c s }
+pub keys_are_unique : IsAtomOrder → KeysAreUnique
+keys_are_unique atom_order c s = record { one = one_canonical atom_order c s; one_key = one_key atom_order c s; not_both = not_both c s }

@@ -7,8 +7,8 @@ use Rattle.lin_model.specs.Conditions.{PlainCondition}
 use Rattle.lin_model.specs.KeyAtom.{PlainKeyAtom}
 use Rattle.lin_model.specs.Key.{Ascends}
 use Rattle.lin_model.specs.Bounded.{variable}
-use Rattle.atom_implies.specs.Implies.{Implies}
 use Rattle.slicer.specs.Slices.{PlainSlice, AreSlices}
+use Rattle.atom_implies.specs.Implies.{Implies}
 use Rattle.canoniser.specs.Forms.{never, says, ComesTo}
 use Rattle.canoniser.specs.Numbering.{atoms_of, order_of}
 

@@ -36,7 +36,7 @@ fn is_implied<L: Ledger>(atoms: &[KeyAtom], atom: &KeyAtom, steps: &mut Steps<L>
 {
     for k in (0..atoms.len()).rev() {
         let other = &atoms[k];
-        if !have_same_form(other, atom) {
+        if !other.form().equals(atom.form()) {
             return false;
         }
         if implies(other, atom, steps) {
@@ -44,11 +44,4 @@ fn is_implied<L: Ledger>(atoms: &[KeyAtom], atom: &KeyAtom, steps: &mut Steps<L>
         }
     }
     false
-}
-
-/// Whether the forms are the same.
-fn have_same_form(a: &KeyAtom, b: &KeyAtom) -> bool
-    ensures { IsTrue result ↔ (a.now.form ≡ b.now.form) }
-{
-    a.form().terms() == b.form().terms()
 }

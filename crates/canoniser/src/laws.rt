@@ -1,8 +1,9 @@
-//! Laws of keys, each the contract of a function that does nothing.
+//! Laws of keys, each the contract of a function that does nothing, or only calls such laws of crates below.
 ghost use Rattle.canoniser.specs.OneKey.{EachHasCanonical, KeysAreUnique};
 ghost use Rattle.canoniser.specs.Laws.{RepeatingKeepsKeys, RenumberingKeepsKeys, FactorsKeepKeys};
 
 use atom_implies::table_is_right;
+use lin_model::order_is_total;
 use slicer::slices_are_a_partition;
 
 /// Each slice of a condition has a key or a first atom that no integers satisfy, within the limits of the types that
@@ -10,6 +11,7 @@ use slicer::slices_are_a_partition;
 pub fn keys_exist()
     ensures { EachHasCanonical }
 {
+    order_is_total();
     table_is_right();
     slices_are_a_partition();
 }
@@ -17,7 +19,9 @@ pub fn keys_exist()
 /// A slice has one key alone, or one first atom that no integers satisfy, and not both.
 pub fn keys_are_unique()
     ensures { KeysAreUnique }
-{}
+{
+    order_is_total();
+}
 
 /// The key of a slice doesn't change when an atom of its condition is repeated after itself.
 pub fn repeating_keeps_keys()

@@ -10,7 +10,7 @@ ghost use Rattle.canoniser.specs.Parts.{IsPartOf, StandTogether};
 
 use crate::implied::without_implied;
 use atom_implies::{Steps, table_is_right};
-use lin_model::{Key, KeyAtom, cmp_atoms};
+use lin_model::{Key, KeyAtom, cmp_atoms, order_is_total};
 use outside::NoMemory;
 use std::alloc::Global;
 use std::marker::Brand;
@@ -24,9 +24,10 @@ pub(crate) fn strongest(alloc: Global, atoms: Vec<KeyAtom>) -> Result<Key, NoMem
         (λ key. (a : PlainKeyAtom) → Contains key a ↔ IsStrongest (Contains atoms.items) a) }
     ensures covers { IfOk result (λ key. Covers key atoms.items) }
 {
+    order_is_total();
+    table_is_right();
     let sorted = sorted(atoms);
     let kept = unimplied::<Brand>(alloc, sorted, Blank::new(1))?;
-    table_is_right();
     match Key::of(kept) {
         Ok(key) => Ok(key),
         Err(_) => unreachable!(),
@@ -38,6 +39,7 @@ fn sorted(atoms: Vec<KeyAtom>) -> Vec<KeyAtom>
     ensures permutation { IsPermutation atoms.items result.items }
     ensures sorted { IsSorted compare_atoms result.items }
 {
+    order_is_total();
     let mut atoms = atoms;
     atoms.sort_unstable_by(|a, b| cmp_atoms(a, b));
     atoms

@@ -1,11 +1,11 @@
 -- A right answer has few parts, so the parts of a session can be counted.
 use Rattle.std.proofs.Common.{◌≡◌, ℕ, zero, suc, ◌+◌, ◌<◌, ◌≤◌, List, [], ◌∷◌, ◌++◌, length, get_or, take, arith, ap, sym, subst, sum_by, Result, Ok, Err, IfOk}
-use Rattle.std.specs.List.{AllZip, slice_get}
-use Rattle.std.specs.Option.{IsSomeAnd}
+use Rattle.std.specs.List.{AllZip}
 use Rattle.std.proofs.lemmas.List.{take_more}
 use Rattle.std.proofs.lemmas.List.Sums.{sum_by_more}
 use Rattle.std.proofs.lemmas.Slice.Zip.{AllZip-long, all_zipped_more}
 use Rattle.lin_model.specs.Conditions.{PlainCondition}
+use Rattle.lin_model.specs.Lists.{within_from_IsSomeAnd}
 use Rattle.slicer.specs.Slices.{PlainSlice, AreClasses, least}
 use Rattle.pipeline.specs.Answers.{IsRightAnswer, IsRightVerdict, Leaves}
 use Rattle.pipeline.specs.declared.answer.Told.{Told}
@@ -37,17 +37,11 @@ classes_few q (slice ∷ slices) are =
     let below = (are.each (length slices) blank within).declared in
     omega (arith, above, below)
 
--- a number at which something stands is a number of the list
-pub within_from_some : {X : Type 0} (P : X → Type 0) (xs : List X) (i : ℕ) → IsSomeAnd (slice_get xs i) P → i < length xs
-within_from_some P [] i some = absurd some
-within_from_some P (x ∷ xs) zero some = omega arith
-within_from_some P (x ∷ xs) (suc i) some = omega (arith, within_from_some P xs i some)
-
 -- no slice has more than one part
 parts_within : (budget : ℕ) (q : PlainCondition) (classes : List PlainSlice) (verdict : Told) (parts : List PlainPart) → IsRightVerdict budget q classes verdict parts → length parts ≤ length classes
 parts_within budget q classes (Sat values) parts right = omega (arith, right.asked)
 parts_within budget q classes (UnsatAtom j) parts right = omega (arith, ap length right.none_asked)
-parts_within budget q classes (UnsatSlice s) parts right = omega (arith, right.asked, within_from_some _ classes s right.refuted)
+parts_within budget q classes (UnsatSlice s) parts right = omega (arith, right.asked, within_from_IsSomeAnd classes _ s right.refuted)
 parts_within budget q classes (Unknown s) parts right = omega (arith, AllZip-long (Leaves budget q) classes parts right.left)
 
 solved_of-le : (part : PlainPart) → solved_of part ≤ 1

@@ -3,4 +3,4 @@ mod FewLemmas
 mod InputLemmas
 mod StatusLemmas
 mod TextLemmas
-pub mod TakenLemmas
+mod TakenLemmas

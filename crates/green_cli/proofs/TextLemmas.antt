@@ -1,11 +1,11 @@
 -- Loops that write what is left of a list.
-use Rattle.std.proofs.Common.{◌≡◌, ℕ, suc, ◌+◌, ◌<◌, List, [], ◌∷◌, ◌++◌, length, drop, get_or, ℤ, sym, ap, ◌∙◌, append_assoc, add-one, drop-cons, refl, append-nil, codes, zero, arith}
+use Rattle.std.proofs.Common.{◌≡◌, ℕ, suc, ◌+◌, ◌<◌, List, [], ◌∷◌, ◌++◌, length, drop, get_or, ℤ, sym, ap, ◌∙◌, append_assoc, add-one, drop-cons, refl, append-nil, codes}
 use Rattle.lin_model.specs.Terms.{PlainVar}
 use Rattle.lin_model.specs.Conditions.{PlainCondition}
+use Rattle.lin_model.specs.Lists.{AllZip-at}
 use Rattle.lin_text.specs.Spelling.{line}
 use Rattle.pipeline.specs.declared.answer.Plain.{Plain}
 use Rattle.pipeline.specs.declared.answer.PlainPart.{PlainPart}
-use Rattle.std.specs.List.{AllZip}
 use Rattle.green_cli.specs.AnswersText.{HaveAnswers, model_text, value_text, parts_text, part_text, script_text, answer_text, executors_text, solved_of, solved_in, solved_count, solved_in_all}
 
 -- what is left begins with the item that is read
@@ -80,14 +80,7 @@ next_script text piece queries answers next sum e step = step ∙ ap (λ (n : �
 pub next_executors : (text piece : List ℕ) (executors : List (List PlainCondition)) (scripts : List (List Plain)) (next sum : ℕ) → next ≡ sum → text ≡ piece ++ executors_text sum executors scripts → text ≡ piece ++ executors_text next executors scripts
 next_executors text piece executors scripts next sum e step = step ∙ ap (λ (n : ℕ). piece ++ executors_text n executors scripts) (sym e)
 
--- pairs of lists, pairwise related
-pub zip_read : {A B : Type 0} (R : A → B → Type 0) (xs : List A) (ys : List B) (i : ℕ) (x : A) (y : B) → AllZip R xs ys → i < length xs → R (get_or xs i x) (get_or ys i y)
-zip_read R [] ys i x y h within = absurd (omega (arith, within))
-zip_read R (a ∷ xs) [] i x y h within = absurd h
-zip_read R (a ∷ xs) (b ∷ ys) zero x y h within = h.0
-zip_read R (a ∷ xs) (b ∷ ys) (suc i) x y h within = zip_read R xs ys i x y h.1 (omega (arith, within))
-
 -- one answer for each query of the executor that is read
 pub answers_read : (executors : List (List PlainCondition)) (scripts : List (List Plain)) (i : ℕ) (queries : List PlainCondition) (answers : List Plain) → HaveAnswers executors scripts → i < length executors → queries ≡ get_or executors i queries → answers ≡ get_or scripts i answers → length queries ≡ length answers
 answers_read executors scripts i queries answers shape within a b =
-    ap length a ∙ (zip_read (λ (qs : List PlainCondition) (rs : List Plain). length qs ≡ length rs) executors scripts i queries answers shape within ∙ ap length (sym b))
+    ap length a ∙ (AllZip-at (λ (qs : List PlainCondition) (rs : List Plain). length qs ≡ length rs) executors scripts i queries answers shape within ∙ ap length (sym b))

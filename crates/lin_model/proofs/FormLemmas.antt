@@ -1,8 +1,8 @@
--- The greatest common divisor of a form's coefficients, one term after another.
+-- The greatest common divisor of a form's coefficients, its width and its value, one term after another.
 use Rattle.std.proofs.Common.{◌≤◌, ◌≡◌, ℕ, suc, ◌+◌, ◌<◌, max, ℤ, ◌+ℤ◌, ◌*ℤ◌, List, [], ◌∷◌, length, take, drop, get_or, unsigned_abs, ap, arith}
 use Rattle.std.specs.Int.{IsGcd, ◌∣◌}
 use Rattle.std.specs.List.{All}
-use Rattle.std.proofs.lemmas.Nat.Gcd.{dvd_trans, dvd_antisymm, dvd-zero}
+use Rattle.std.proofs.lemmas.Nat.Gcd.{dvd_trans}
 use Rattle.std.proofs.lemmas.List.{get_or-take, length-take, drop_more}
 use Rattle.std.proofs.lemmas.Int.{ints}
 use Rattle.std.proofs.lemmas.List.Elements.{All-more, All-weaker, All-nil, All-cons}
@@ -26,13 +26,6 @@ IsGcdOf-more form i d g h lt before two = record {
   divides = All-more (λ t. h ∣ unsigned_abs t.coef) form i d lt (All-weaker (λ t. g ∣ unsigned_abs t.coef) (λ t. h ∣ unsigned_abs t.coef) (λ t. dvd_trans h two.0) (take i form) before.divides) two.1;
   greatest = λ e all. two.2 e (before.greatest e (DividesAll-fewer form i e all)) (DividesAll-last form i d e lt all);
 }
-
--- no term: every number divides all
-pub IsGcdOf-none : IsGcdOf [] 0
-IsGcdOf-none = record { divides = λ k d lt. absurd (omega arith); greatest = λ d _. dvd-zero d }
-
-pub same_from_IsGcdOf : (form : List FormTerm) (g h : ℕ) → IsGcdOf form g → IsGcdOf form h → g ≡ h
-same_from_IsGcdOf form g h a b = dvd_antisymm (b.greatest g a.divides) (a.greatest h b.divides)
 
 -- one more term of the width and of the value, from the front
 pub form_width-rest : (form : List FormTerm) (i : ℕ) (d : FormTerm) → i < length form → form_width (drop i form) ≡ max (suc (get_or form i d).var) (form_width (drop (i + 1) form))

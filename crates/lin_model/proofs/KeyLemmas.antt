@@ -1,19 +1,13 @@
 -- The width of a key, one atom after another.
-use Rattle.std.proofs.Common.{◌≡◌, ◌≤◌, ◌<◌, ℕ, ◌+◌, max, List, [], ◌∷◌, length, drop, get_or, ap, arith}
-use Rattle.std.specs.List.{All}
+use Rattle.std.proofs.Common.{◌≡◌, ◌≤◌, ◌<◌, ℕ, ◌+◌, max, List, length, drop, get_or, ap, arith}
 use Rattle.std.proofs.lemmas.List.{drop_more}
-use Rattle.std.proofs.lemmas.List.Elements.{All-nil, All-cons, All-weaker}
 use Rattle.lin_model.specs.Form.{form_width}
 use Rattle.lin_model.specs.KeyAtom.{PlainKeyAtom}
 use Rattle.lin_model.specs.Key.{key_width}
+use Rattle.lin_model.specs.Facts.{key_width-above}
 
 pub key_width-rest : (atoms : List PlainKeyAtom) (i : ℕ) (d : PlainKeyAtom) → i < length atoms → key_width (drop i atoms) ≡ max (form_width (get_or atoms i d).form) (key_width (drop (i + 1) atoms))
 key_width-rest atoms i d lt = ap key_width (drop_more atoms i d lt)
-
--- no form is wider than the key
-pub key_width-above : (atoms : List PlainKeyAtom) → All (λ a. form_width a.form ≤ key_width atoms) atoms
-key_width-above [] = All-nil (λ a. form_width a.form ≤ 0)
-key_width-above (a ∷ atoms) = All-cons (λ b. form_width b.form ≤ max (form_width a.form) (key_width atoms)) a atoms (omega arith) (All-weaker (λ b. form_width b.form ≤ key_width atoms) (λ b. form_width b.form ≤ max (form_width a.form) (key_width atoms)) (λ b h. omega arith) atoms (key_width-above atoms))
 
 -- no form of a key is wider than whatever its width is at most
 pub atom_within : (atoms : List PlainKeyAtom) (n i : ℕ) (d : PlainKeyAtom) → i < length atoms → key_width atoms ≤ n → form_width (get_or atoms i d).form ≤ n

@@ -1,7 +1,7 @@
-pub mod Elements
-pub mod NamesLemmas
-pub mod TermLemmas
-pub mod FormLemmas
-pub mod OrderLemmas
-pub mod KeyLemmas
-pub mod Worked
+mod Elements
+mod TermLemmas
+mod FormLemmas
+mod OrderLemmas
+mod KeyLemmas
+mod Worked
+mod SameTerms

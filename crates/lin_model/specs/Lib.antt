@@ -1,3 +1,6 @@
+pub mod Lists
+pub mod Ordered
+pub mod Integers
 pub mod Names
 pub mod Terms
 pub mod Truth
@@ -10,3 +13,4 @@ pub mod AtomOrder
 pub mod Key
 pub mod Bounded
 pub mod Point
+pub mod Facts

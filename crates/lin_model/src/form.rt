@@ -1,6 +1,6 @@
 //! Linear forms: sums of whole multiples of numbered variables.
 
-ghost use Rattle.std.specs.Prelude.{◌≡◌};
+ghost use Rattle.std.specs.Prelude.{◌≡◌, ◌↔◌, IsTrue};
 
 use std::marker::Model;
 
@@ -43,6 +43,13 @@ impl Form {
         &self.terms
     }
 
+    /// Whether both have the same terms, one by one.
+    pub fn equals(&self, other: &Form) -> bool
+        ensures { IsTrue result ↔ (self.now ≡ other.now) }
+    {
+        same_terms(&self.terms, &other.terms)
+    }
+
     /// Gives the terms back.
     pub fn into_terms(self) -> Vec<FormTerm>
         ensures { result.items ≡ self }
@@ -50,4 +57,11 @@ impl Form {
         let Form { terms } = self;
         terms
     }
+}
+
+/// Whether the terms are the same, one by one.
+fn same_terms(a: &[FormTerm], b: &[FormTerm]) -> bool
+    ensures { IsTrue result ↔ (a.now ≡ b.now) }
+{
+    a == b
 }

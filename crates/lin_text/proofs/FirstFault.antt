@@ -3,6 +3,7 @@ use Rattle.std.proofs.Common.{◌≡◌, ℕ, ◌<◌, ◌≤◌, suc, Bool, fal
 use Rattle.std.specs.List.{prefix_len}
 use Rattle.std.proofs.lemmas.List.{append-nil, map-append, length-map, append_cancel_left, take-append-drop}
 use Rattle.lin_model.specs.Conditions.{PlainCondition}
+use Rattle.lin_model.specs.Lists.{parted}
 use Rattle.lin_text.specs.declared.fault.TextKind.{TextKind}
 use Rattle.lin_text.specs.declared.fault.TextKind.TheVariants as kinds
 use Rattle.lin_text.specs.declared.refusal.Fault.{Fault}
@@ -13,7 +14,6 @@ use Rattle.lin_text.specs.Queries.{begins_word, is_of_query, query_lines, HasFau
 use Rattle.lin_text.proofs.Positions.{lines_total, tokens-within, tokens-later, lines-behind}
 use Rattle.lin_text.proofs.Passing.{NoFault}
 use Rattle.lin_text.proofs.Outcomes.{Passes, Fails}
-use Rattle.lin_text.proofs.ListLemmas.{parted}
 use Rattle.lin_text.proofs.LinesRead.{AreClean, ReadTo}
 use Rattle.lin_text.proofs.QueryEnds.{query-lines}
 use Rattle.lin_text.proofs.QueryLines.{NotEmptyLine, IsClean, FailsFirst}

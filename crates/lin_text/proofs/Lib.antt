@@ -1,10 +1,9 @@
-pub mod ListLemmas
-pub mod LineLemmas
-pub mod Positions
-pub mod Places
-pub mod UniqueTokens
-pub mod ReadBackFront
-pub mod NoFault
+mod LineLemmas
+mod Positions
+mod Places
+mod UniqueTokens
+mod ReadBackFront
+mod NoFault
 mod WordLemmas
 mod IntegerLemmas
 mod NamedLemmas

@@ -72,23 +72,11 @@ unfolding first_line
 first_line-skipped at [] e = refl
 first_line-skipped at (b ∷ bs) e = ap (λ (s : Bool). cond (true && not s) at (first_line (is_feed b) (at + 1) bs)) e
 
-pub first_line-here : (at : ℕ) (bs : List ℕ) → is_skipped bs ≡ false → first_line true at bs ≡ at
-unfolding first_line
-first_line-here at [] e = refl
-first_line-here at (b ∷ bs) e = ap (λ (s : Bool). cond (true && not s) at (first_line (is_feed b) (at + 1) bs)) e
-
 pub line_from-below : (bytes rest : List ℕ) (at : ℕ) (below : ℕ) → at ≤ length bytes → below ≡ line_below bytes at → rest ≡ drop at bytes → is_skipped rest ≡ true → line_from bytes below ≡ line_from bytes at
 line_from-below bytes rest at below within is from skipped =
     let m : ℕ = min (prefix_len is_in_line (drop at bytes) + 1) (length (drop at bytes)) in
     let there : below ≡ at + m = omega (arith, length-drop at bytes) in
     rw there (ap (λ (bs : List ℕ). first_line true (at + m) bs) (sym (drop-drop m at bytes)) ∙ sym (first_line-below at (drop at bytes) m refl) ∙ sym (first_line-skipped at (drop at bytes) (ap is_skipped (sym from) ∙ skipped)))
-
-pub line_from-end : (bytes : List ℕ) (at : ℕ) → length bytes ≤ at → line_from bytes at ≡ at
-unfolding first_line
-line_from-end bytes at le = at_drop_all (first_line true at) bytes at le
-
-pub line_from-here : (bytes rest : List ℕ) (at : ℕ) → rest ≡ drop at bytes → is_skipped rest ≡ false → line_from bytes at ≡ at
-line_from-here bytes rest at from e = first_line-here at (drop at bytes) (ap is_skipped (sym from) ∙ e)
 
 -- what isn't within a line is a line feed
 not_in_line : (b : ℕ) → is_in_line b ≡ false → b ≡ 10

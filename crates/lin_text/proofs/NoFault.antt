@@ -1,15 +1,15 @@
 -- What is spelled has no fault.
-use Rattle.std.proofs.Common.{◌≡◌, ℕ, List, [], ◌∷◌, ◌++◌, length, sym, ap, subst, ◌∙◌, arith, length-append, inl, inr}
+use Rattle.std.proofs.Common.{◌≡◌, List, [], ◌∷◌, ◌++◌, length, sym, ap, subst, ◌∙◌, arith, length-append, inl, inr}
 use Rattle.std.specs.Prelude.{AllPairs}
 use Rattle.std.proofs.lemmas.List.{map-append}
 use Rattle.lin_model.specs.Terms.{PlainVar}
-use Rattle.lin_model.specs.Conditions.{PlainCondition, Differ, Fits}
+use Rattle.lin_model.specs.Conditions.{Differ, Fits}
 use Rattle.lin_model.specs.declared.atom.Atom.{Atom}
-use Rattle.lin_text.specs.Laws.{SpelledHasNoFault}
+use Rattle.lin_text.specs.Laws.{SpelledHasNoFault, SpelledLinesHaveNoFault}
 use Rattle.lin_text.specs.declared.fault.TextKind.{TextKind}
 use Rattle.lin_text.specs.Pieces.{Piece, PlainToken, PlainLine, pieces}
 use Rattle.lin_text.specs.Grammar.{Declares, Compares}
-use Rattle.lin_text.specs.Faults.{Stands, StandsAt}
+use Rattle.lin_text.specs.Faults.{Stands}
 use Rattle.lin_text.specs.Queries.{names_of, query_lines, Spell, AreDeclaredAndCompared}
 use Rattle.lin_text.proofs.UniqueTokens.{AreLines-once}
 use Rattle.lin_text.proofs.NoFaultLines.{Parts, parts}
@@ -37,7 +37,7 @@ no_stand above line below vars atoms front p after kind fits split shown stands 
         stands
 
 -- no fault stands in the lines of what is spelled
-pub Spell-no_fault : (lines : List PlainLine) (q : PlainCondition) (kind : TextKind) (place : ℕ) → Spell lines q → StandsAt lines kind place → ⊥
+pub Spell-no_fault : SpelledLinesHaveNoFault
 Spell-no_fault lines q kind place s f =
     no_stand f.above f.line f.below q.vars q.atoms (pieces f.front) f.token.piece (pieces f.after) kind s.fits
     (parts [] f.above (f.line ∷ f.below) q.vars q.atoms (subst (λ (ls : List PlainLine). AreDeclaredAndCompared [] ls q.vars q.atoms) f.in_lines s.meaning))

@@ -3,6 +3,7 @@ use Rattle.std.proofs.Common.{◌≡◌, ℕ, ◌+◌, suc, Bool, true, false, L
 use Rattle.std.specs.Prelude.{flat_map, option_and_then}
 use Rattle.lin_text.specs.Pieces.{Piece, var, word, name, number, plus, minus, times, compare, line_end}
 use Rattle.lin_text.specs.Grammar.{constant, multiple, single, Item, Joined, Side, Line, declaration, comparison, sign, quantity_pieces, item_pieces, joint, joined_pieces, side_pieces, item_count, line_pieces, BeginsLine}
+use Rattle.lin_text.specs.Laws.{WordsStandInNoLine}
 
 -- On the left or the right side: before an item, behind a minus of its own, behind an item and whether it is a number alone, behind a number and `*`. The number counts the items of the side.
 pub data Place : Type 0 where
@@ -175,7 +176,7 @@ next-word (after false n false) w = refl
 next-word (factor l n) w = refl
 next-word done w = refl
 
-pub word-begins_no_line : (front : List Piece) (w : List ℕ) → ¬ BeginsLine (front ++ word w ∷ [])
+pub word-begins_no_line : WordsStandInNoLine
 word-begins_no_line front w = λ b.
     let r = run-BeginsLine (front ++ word w ∷ []) b in
     let f = run-front start r.0 front (word w ∷ []) r.1 in

@@ -1,4 +1,4 @@
--- The tokens of a line lie behind one another, within the line.
+-- Where the tokens and lines of a text lie, and that none is missing.
 use Rattle.std.proofs.Common.{◌≡◌, ℕ, ◌+◌, ◌-◌, ◌<◌, ◌≤◌, zero, suc, Bool, true, false, cond, not, nat_lt, nat_eq, List, [], ◌∷◌, ◌++◌, length, drop, refl, sym, ap, subst, ◌∙◌, arith, length-drop}
 use Rattle.std.specs.Prelude.{◌&&◌, MatchBool, slice_range}
 use Rattle.std.specs.List.{prefix_len}
@@ -7,12 +7,16 @@ use Rattle.std.proofs.lemmas.Bool.Decides.{nat_tests}
 use Rattle.std.proofs.lemmas.List.Sums.{prefix_len-le-length}
 use borrow.Author.Tests.{ltb-true, ltb-false}
 use Rattle.lin_model.specs.Names.{is_name_start, is_name_byte, is_digit}
+use Rattle.lin_model.specs.Lists.{not_nil}
 use Rattle.lin_text.specs.declared.token.Token.{Token}
 use Rattle.lin_text.specs.declared.token.TokenKind.{TokenKind}
 use Rattle.lin_text.specs.declared.token.TokenKind.TheVariants as kinds
-use Rattle.lin_text.specs.Lines.{is_feed, is_in_line, is_blank, line_end, line_below, line_from, first_line, is_skipped}
+use Rattle.lin_text.specs.Lines.{is_feed, is_in_line, is_blank, line_end, line_below, line_from}
 use Rattle.lin_text.specs.Tokens.{token_length, symbol_length, begins_pair, begins_equal, is_symbol, kind_of, nothing_at, token_of, token_here, token_from}
 use Rattle.lin_text.specs.Pieces.{PlainToken, PlainLine, plain_token, first_token, is_last, AreTokens, AreLines, piece_of}
+use Rattle.lin_text.specs.LineLaws.{IsAhead, LinesAreInOrder}
+use Rattle.lin_text.specs.Facts.{first_line-bounds}
+use Rattle.lin_text.proofs.UniqueTokens.{AreLines-once}
 
 -- a run of bytes of a sort is no longer than one of a wider sort
 prefix_len-mono : (p q : ℕ → Bool) → ((b : ℕ) → p b ≡ true → q b ≡ true) → (xs : List ℕ) → prefix_len p xs ≤ prefix_len q xs
@@ -108,14 +112,6 @@ token_here-within at (b ∷ bs) =
       | false ↦ λ f. token_of-within (kind_of b (token_length (b ∷ bs))) at (token_length (b ∷ bs)) (prefix_len is_in_line (b ∷ bs)) (token_length-in b bs f) (some_long b bs)
     ] refl
 
--- the first token from a place lies at or behind it, within the line
-pub record IsAhead (bytes : List ℕ) (at : ℕ) (t : PlainToken) : Type 0 where
-  pub ahead : at ≤ t.from
-  pub order : t.from ≤ t.to
-  pub within : t.to ≤ line_end bytes at
-  pub line : line_end bytes t.to ≡ line_end bytes at
-  pub some : is_last t.piece ≡ false → t.from < t.to
-
 piece_last : (p : Bool) (kind : TokenKind) (text : List ℕ) → is_last (piece_of p kind text) ≡ false → (kind ≡ kinds.Bad → ⊥) × (kind ≡ kinds.LineEnd → ⊥)
 unfolding piece_of
 piece_last p kinds.Bad text e = absurd (cc)
@@ -168,17 +164,7 @@ tokens_total (suc n) p bytes at le few =
           (t ∷ rest.0, (refl, subst (λ (b : Bool). MatchBool b (rest.0 ≡ []) (AreTokens p bytes t.to rest.0)) (sym e) rest.1))
     ] refl
 
-pub first_line-bounds : (begins : Bool) (at : ℕ) (bs : List ℕ) → (at ≤ first_line begins at bs) × (first_line begins at bs ≤ at + length bs)
-unfolding first_line
-first_line-bounds begins at [] = (omega arith, omega arith)
-first_line-bounds begins at (b ∷ bs) =
-    let more = first_line-bounds (is_feed b) (at + 1) bs in
-    elim (begins && not (is_skipped (b ∷ bs))) as (λ c. (at ≤ cond c at (first_line (is_feed b) (at + 1) bs)) × (cond c at (first_line (is_feed b) (at + 1) bs) ≤ at + length (b ∷ bs))) [
-      | true ↦ (omega arith, omega arith)
-      | false ↦ (omega (arith, more.0), omega (arith, more.1))
-    ]
-
--- every place at which a line begins has lines
+-- every place has lines
 pub lines_total : (n : ℕ) (p : Bool) (bytes : List ℕ) (at : ℕ) → at ≤ length bytes → length bytes - at < n → (lines : List PlainLine) × AreLines p bytes at lines
 lines_total zero p bytes at le few = absurd (omega arith)
 lines_total (suc n) p bytes at le few =
@@ -210,10 +196,6 @@ tokens-within p bytes at (t ∷ ts) (f ∷ front) after u are e =
           let more = tokens-within p bytes t.to ts front after u h rest in
           (omega (arith, ahead.ahead, ahead.order, more.0), omega (arith, more.1, ahead.line))
     ] are.1
-  where
-    not_nil : (xs : List PlainToken) (x : PlainToken) (ys : List PlainToken) → xs ++ x ∷ ys ≡ [] → ⊥
-    not_nil [] x ys e = cc
-    not_nil (y ∷ xs) x ys e = cc
 
 -- of two tokens of a line the later one lies behind
 pub tokens-later : (p : Bool) (bytes : List ℕ) (at : ℕ) (ts front mid after : List PlainToken) (t u : PlainToken) → AreTokens p bytes at ts → ts ≡ front ++ t ∷ (mid ++ u ∷ after) → t.from < u.from
@@ -223,26 +205,18 @@ tokens-later p bytes at (w ∷ ts) [] mid after t u are e =
     let rest : ts ≡ mid ++ u ∷ after = cc in
     let ahead = subst (λ (v : PlainToken). IsAhead bytes at v) (sym are.0) (first_token-ahead p bytes at) in
     elim (is_last w.piece) as (λ b. is_last w.piece ≡ b → MatchBool b (ts ≡ []) (AreTokens p bytes w.to ts) → t.from < u.from) [
-      | true ↦ λ l h. absurd (no_nil mid u after (sym rest ∙ h))
+      | true ↦ λ l h. absurd (not_nil mid u after (sym rest ∙ h))
       | false ↦ λ l h.
           let more = tokens-within p bytes w.to ts mid after u h rest in
           let lt : w.from < u.from = omega (arith, ahead.some l, more.0) in
           subst (λ (v : PlainToken). v.from < u.from) same lt
     ] refl are.1
-  where
-    no_nil : (xs : List PlainToken) (x : PlainToken) (ys : List PlainToken) → xs ++ x ∷ ys ≡ [] → ⊥
-    no_nil [] x ys e = cc
-    no_nil (y ∷ xs) x ys e = cc
 tokens-later p bytes at (w ∷ ts) (f ∷ front) mid after t u are e =
     let rest : ts ≡ front ++ t ∷ (mid ++ u ∷ after) = cc in
     elim (is_last w.piece) as (λ b. MatchBool b (ts ≡ []) (AreTokens p bytes w.to ts) → t.from < u.from) [
-      | true ↦ λ h. absurd (no_nil front t (mid ++ u ∷ after) (sym rest ∙ h))
+      | true ↦ λ h. absurd (not_nil front t (mid ++ u ∷ after) (sym rest ∙ h))
       | false ↦ λ h. tokens-later p bytes w.to ts front mid after t u h rest
     ] are.1
-  where
-    no_nil : (xs : List PlainToken) (x : PlainToken) (ys : List PlainToken) → xs ++ x ∷ ys ≡ [] → ⊥
-    no_nil [] x ys e = cc
-    no_nil (y ∷ xs) x ys e = cc
 
 -- a line lies behind the place
 pub lines-behind : (p : Bool) (bytes : List ℕ) (at : ℕ) (lines above below : List PlainLine) (line : PlainLine) → AreLines p bytes at lines → lines ≡ above ++ line ∷ below → (at ≤ line.start) × (line.start < length bytes) × AreTokens p bytes line.start line.tokens
@@ -257,3 +231,29 @@ lines-behind p bytes at (l ∷ lines) (a ∷ above) below line are e =
     let rest : lines ≡ above ++ line ∷ below = cc in
     let more = lines-behind p bytes (line_below bytes l.start) lines above below line are.3 rest in
     (omega (arith, are.0, are.1, bounds.0, more.0), more.1, more.2)
+
+-- of two lines the later one lies behind
+lines-later : (p : Bool) (bytes : List ℕ) (at : ℕ) (lines above between below : List PlainLine) (line later : PlainLine) → AreLines p bytes at lines → lines ≡ above ++ line ∷ (between ++ later ∷ below) → line.start < later.start
+lines-later p bytes at [] [] between below line later are e = absurd (cc)
+lines-later p bytes at [] (a ∷ above) between below line later are e = absurd (cc)
+lines-later p bytes at (l ∷ lines) [] between below line later are e =
+    let same : l ≡ line = cc in
+    let rest : lines ≡ between ++ later ∷ below = cc in
+    let behind = lines-behind p bytes (line_below bytes l.start) lines between below later are.3 rest in
+    subst (λ (m : PlainLine). m.start < later.start) same (omega (arith, are.1, behind.0, behind.1))
+lines-later p bytes at (l ∷ lines) (a ∷ above) between below line later are e =
+    let rest : lines ≡ above ++ line ∷ (between ++ later ∷ below) = cc in
+    lines-later p bytes (line_below bytes l.start) lines above between below line later are.3 rest
+
+-- so the lines and tokens of a text are in order
+pub lines_in_order : LinesAreInOrder
+lines_in_order in_proof bytes = record {
+  first_ahead = first_token-ahead in_proof bytes;
+  has_tokens = λ at le. tokens_total (suc (length bytes)) in_proof bytes at le (omega arith);
+  has_lines = λ at le. lines_total (suc (length bytes)) in_proof bytes at le (omega arith);
+  lines_once = AreLines-once in_proof bytes;
+  token_within = tokens-within in_proof bytes;
+  token_later = tokens-later in_proof bytes;
+  line_behind = lines-behind in_proof bytes;
+  line_later = lines-later in_proof bytes;
+}

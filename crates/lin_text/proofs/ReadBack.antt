@@ -14,7 +14,7 @@ use Rattle.lin_text.specs.Lines.{is_in_line, line_from, line_below}
 use Rattle.lin_text.specs.Pieces.{Piece, PlainLine, pieces, AreLines}
 use Rattle.lin_text.specs.Grammar.{Declares, Compares}
 use Rattle.lin_text.specs.Queries.{begins_word, is_of_query, query_lines, start_of, query_end, names_of, AreDeclaredAndCompared, Spells}
-use Rattle.lin_text.proofs.LineLemmas.{line_from-here, line_from-end}
+use Rattle.lin_text.specs.Facts.{line_from-here, line_from-end}
 use Rattle.lin_text.proofs.ReadBackTokens.{HasPieces, Starts}
 use Rattle.lin_text.proofs.ReadBackLines.{compared_atom, declared_var}
 

@@ -10,6 +10,7 @@ use Rattle.lin_text.specs.declared.token.Token.{Token}
 use Rattle.lin_text.specs.declared.token.TokenKind.{TokenKind}
 use Rattle.lin_text.specs.declared.token.TokenKind.TheVariants.{Bad, LineEnd}
 use Rattle.lin_text.specs.Pieces.{Piece, word, piece_of, plain_token, first_token}
+use Rattle.lin_text.specs.LineLaws.{moved_by, TokensMoveWithTheirText}
 
 -- what stands behind the blanks at the front
 abbrev pub behind_blanks : List ℕ → List ℕ
@@ -50,6 +51,19 @@ first_token-front p bytes at =
     let cut : ((at + n) + t.to) - (at + n) ≡ t.to = omega arith in
     ap (plain_token p bytes) (token_here-moved (at + n) (drop (at + n) bytes) ∙ ap (λ (xs : List ℕ). from_place (at + n) (token_here 0 xs)) there)
     ∙ ap (λ (text : List ℕ). record { from = at + n; to = (at + n) + t.to; piece = piece_of p t.kind text }) (ap (λ (m : ℕ). take m (drop (at + n) bytes)) cut ∙ ap (λ (xs : List ℕ). take t.to xs) there)
+
+-- so it is the first token of that text, moved by the place
+pub first_token-moved : TokensMoveWithTheirText
+first_token-moved p bytes at =
+    let rest : List ℕ = drop at bytes in
+    let n : ℕ = prefix_len is_blank rest in
+    let t : Token = front_of rest in
+    let from : at + n ≡ at + (0 + n) = omega arith in
+    let to : (at + n) + t.to ≡ at + ((0 + n) + t.to) = omega arith in
+    first_token-front p bytes at
+    ∙ ap (λ (m : ℕ). record { from = m; to = (at + n) + t.to; piece = front_piece p rest }) from
+    ∙ ap (λ (m : ℕ). record { from = at + (0 + n); to = m; piece = front_piece p rest }) to
+    ∙ ap (moved_by at) (sym (first_token-front p rest 0))
 
 -- a line that begins with a word isn't skipped
 

@@ -4,7 +4,7 @@ use Rattle.std.specs.Prelude.{◌||◌, ◌==◌, slice_range, MatchBool}
 use Rattle.std.specs.List.{prefix_len}
 use Rattle.std.proofs.Math.Seq.{take-append_seam, drop-append-add}
 use Rattle.std.proofs.lemmas.List.Elements.{All-head, All-tail}
-use Rattle.lin_text.proofs.ListLemmas.{drop-behind}
+use Rattle.lin_model.specs.Lists.{drop-behind}
 use Rattle.lin_text.specs.Lines.{is_feed, is_in_line, is_blank, is_skipped, ends_or_comments}
 use Rattle.lin_text.specs.Tokens.{token_from, token_here, token_of, token_length, kind_of}
 use Rattle.lin_text.specs.declared.token.TokenKind.{TokenKind}

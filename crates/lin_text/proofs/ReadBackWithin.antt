@@ -10,7 +10,7 @@ use Rattle.lin_text.specs.Lines.{is_skipped, line_from, line_below}
 use Rattle.lin_text.specs.Pieces.{Piece, word, PlainToken, PlainLine, first_token, pieces, AreTokens, AreLines}
 use Rattle.lin_text.specs.Queries.{begins_word, is_of_query, query_lines, start_of, query_end, AreDeclaredAndCompared, Spells}
 use Rattle.lin_text.specs.Laws.{EndsQuery}
-use Rattle.lin_text.proofs.LineLemmas.{line_from-here}
+use Rattle.lin_text.specs.Facts.{line_from-here}
 use Rattle.lin_text.proofs.Positions.{tokens_total, lines_total}
 use Rattle.lin_text.proofs.ReadBackFront.{front_piece, first_token-front, counts-word}
 use Rattle.lin_text.proofs.ReadBack.{Walks, GoesOn, walk_condition, at_end}

@@ -16,7 +16,7 @@ use Rattle.lin_text.specs.Lines.{line_from, line_below}
 use Rattle.lin_text.specs.Pieces.{Piece, var, PlainToken, PlainLine, pieces}
 use Rattle.lin_text.specs.Queries.{Spells, HasFault}
 use Rattle.lin_text.specs.Reading.{lexeme_at, is_word_class, line_at}
-use Rattle.lin_text.proofs.Positions.{first_line-bounds}
+use Rattle.lin_text.specs.Facts.{first_line-bounds}
 use Rattle.lin_text.proofs.QueryLines.{IsClean}
 use Rattle.lin_text.proofs.LinesRead.{AreClean, count-push, ReadTo, read_none}
 use Rattle.lin_text.proofs.QueryEnds.{in_range, spelled_at_end}

@@ -5,6 +5,7 @@ use Rattle.std.proofs.lemmas.Int.{ints}
 use Rattle.std.proofs.lemmas.List.{append-nil, map-append, length-map}
 use Rattle.std.specs.Int.Signed.{lt_z_yes, lt_z_no}
 use borrow.Author.Tests.{ltb-true}
+use Rattle.lin_model.specs.Names.{IsName}
 use Rattle.lin_text.specs.declared.fault.TextKind.TheVariants.{NameTwice, EmptyRange, NumberTooLarge}
 use Rattle.lin_text.specs.declared.refusal.Fault.{Fault}
 use Rattle.lin_text.specs.declared.class.Lexeme.{Lexeme}
@@ -18,7 +19,6 @@ use Rattle.lin_text.proofs.Passing.{At, At-next, At-var, IsRoom, passed, twice_r
 use Rattle.lin_text.proofs.Outcomes.{Passes, Token, token_of, Gets, Gets-one, Fails, Fails-one, Fails-behind, Outcome}
 use Rattle.lin_text.proofs.Bounds.{IsIntegerAt, integer_out, low_places, high_places, refuse, not_too_large}
 use Rattle.lin_text.proofs.AtomLines.{LineOut, LineOut-behind, end_out}
-use Rattle.lin_model.specs.Names.{IsName}
 use Rattle.lin_text.proofs.NamedLemmas.{named-plain}
 use Rattle.lin_text.proofs.PositionLemmas.{position-none, Contains-position, name-text}
 

@@ -1,10 +1,12 @@
 -- Laws of the texts of conditions.
-use Rattle.std.specs.Prelude.{◌≡◌, ℕ, ◌+◌, ◌<◌, ◌≤◌, Bool, false, ◌⊎◌, List, [], ◌++◌, length, take}
+use Rattle.std.specs.Prelude.{◌≡◌, ℕ, ◌+◌, ◌<◌, ◌≤◌, Bool, false, ◌⊎◌, List, [], ◌∷◌, ◌++◌, length, take}
 use Rattle.lin_model.specs.Conditions.{PlainCondition, IsCondition}
 use Rattle.lin_text.specs.Spelling.{condition_text}
-use Rattle.lin_text.specs.Pieces.{word, first_token}
+use Rattle.lin_text.specs.Pieces.{Piece, word, PlainLine, first_token}
+use Rattle.lin_text.specs.Grammar.{BeginsLine}
+use Rattle.lin_text.specs.Faults.{StandsAt}
 use Rattle.lin_text.specs.declared.fault.TextKind.{TextKind}
-use Rattle.lin_text.specs.Queries.{Spells, HasFault}
+use Rattle.lin_text.specs.Queries.{Spell, Spells, HasFault}
 use Rattle.lin_text.specs.Tokens.{IsForm, IsLongest, token_length}
 
 -- the plain spelling of a condition is spelled as that condition, to its end
@@ -29,6 +31,14 @@ SpelledOnce =
 abbrev pub SpelledHasNoFault : Type 0
 SpelledHasNoFault =
     (in_proof : Bool) (bytes : List ℕ) (at : ℕ) (q : PlainCondition) (e : ℕ) → Spells in_proof bytes at q e → (kind : TextKind) (place : ℕ) → HasFault in_proof bytes at kind place → ⊥
+
+-- no fault stands in lines that spell a condition
+abbrev pub SpelledLinesHaveNoFault : Type 0
+SpelledLinesHaveNoFault = (lines : List PlainLine) (condition : PlainCondition) (kind : TextKind) (place : ℕ) → Spell lines condition → StandsAt lines kind place → ⊥
+
+-- no line of a query begins or goes on with a reserved word other than `var`
+abbrev pub WordsStandInNoLine : Type 0
+WordsStandInNoLine = (front : List Piece) (text : List ℕ) → ¬ BeginsLine (front ++ word text ∷ [])
 
 -- a text has at most one first fault, at one place
 abbrev pub OneFirstFault : Type 0

@@ -10,3 +10,5 @@ pub mod Queries
 pub mod Reading
 pub mod Answers
 pub mod Laws
+pub mod LineLaws
+pub mod Facts

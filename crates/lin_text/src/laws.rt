@@ -1,5 +1,6 @@
 //! Laws of the texts of conditions, each the contract of a function that does nothing.
-ghost use Rattle.lin_text.specs.Laws.{OneFirstFault, SpelledHasNoFault, SpelledOnce, SpelledOrFaulty, TokensAreLongest, WrittenIsSpelled, WrittenIsSpelledWithin};
+ghost use Rattle.lin_text.specs.Laws.{OneFirstFault, SpelledHasNoFault, SpelledLinesHaveNoFault, SpelledOnce, SpelledOrFaulty, TokensAreLongest, WordsStandInNoLine, WrittenIsSpelled, WrittenIsSpelledWithin};
+ghost use Rattle.lin_text.specs.LineLaws.{LinesAreInOrder, TokensMoveWithTheirText};
 
 /// What is written for a condition is spelled as that condition, in the sense of the grammar.
 pub fn written_is_spelled()
@@ -21,6 +22,16 @@ pub fn spelled_has_no_fault()
     ensures { SpelledHasNoFault }
 {}
 
+/// No fault stands in lines that spell a condition.
+pub fn spelled_lines_have_no_fault()
+    ensures { SpelledLinesHaveNoFault }
+{}
+
+/// No line of a query begins or goes on with a reserved word other than `var`.
+pub fn words_stand_in_no_line()
+    ensures { WordsStandInNoLine }
+{}
+
 /// A text has at most one first fault, at one place.
 pub fn one_first_fault()
     ensures { OneFirstFault }
@@ -29,6 +40,17 @@ pub fn one_first_fault()
 /// Where a token begins, the longest one is taken.
 pub fn tokens_are_longest()
     ensures { TokensAreLongest }
+{}
+
+/// The lines of a text, and the tokens of a line, lie one behind the other; each place up to the end has its lines and its
+/// tokens, and there is one list of lines.
+pub fn lines_are_in_order()
+    ensures { LinesAreInOrder }
+{}
+
+/// The first token from a place on is the first token of what stands there, moved by the place.
+pub fn tokens_move_with_their_text()
+    ensures { TokensMoveWithTheirText }
 {}
 
 /// A text spells a condition or has a fault.

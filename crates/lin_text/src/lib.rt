@@ -20,8 +20,9 @@ mod write;
 
 pub use fault::{SessionFault, SessionKind, TextFault, TextKind};
 pub use laws::{
-    one_first_fault, spelled_has_no_fault, spelled_once, spelled_or_faulty, tokens_are_longest,
-    written_is_spelled, written_is_spelled_within,
+    lines_are_in_order, one_first_fault, spelled_has_no_fault, spelled_lines_have_no_fault,
+    spelled_once, spelled_or_faulty, tokens_are_longest, tokens_move_with_their_text,
+    words_stand_in_no_line, written_is_spelled, written_is_spelled_within,
 };
 pub use lines::{column, line_below, line_number, next_line};
 pub use push::{push_integer, push_number, push_str};

@@ -6,19 +6,19 @@ use Rattle.std.specs.Vec.{with_items}
 use Rattle.std.proofs.Math.Seq.{take-append_seam}
 use Rattle.std.proofs.lemmas.List.{get_or_default}
 use Rattle.std.proofs.lemmas.List.Elements.{All-nil, All-cons, All-push}
+use Rattle.std.proofs.lemmas.Slice.Zip.{AllZip-long}
 use Rattle.lin_model.specs.Terms.{value_at}
 use Rattle.lin_model.specs.Conditions.{PlainCondition, Fits}
 use Rattle.lin_model.specs.Key.{key_width}
 use Rattle.slicer.specs.Slices.{PlainSlice, AreClasses, least as least_of}
-use Rattle.refutation.specs.Tree.{PlainTree}
 use Rattle.canoniser.specs.Solutions.{point_of}
+use Rattle.refutation.specs.Tree.{PlainTree}
 use Rattle.pipeline.specs.declared.slice_keys.SliceKey.{SliceKey}
 use Rattle.pipeline.specs.declared.answer.PlainPart.{PlainPart}
 use Rattle.pipeline.specs.declared.answer.PlainPart.TheVariants.{Solved, Open}
 use Rattle.pipeline.specs.Answers.{IsModelOf, IsSpentOn, IsOpen, IsFirstOpen}
 use Rattle.pipeline.specs.Asking.{KeyLeaves, IsMet, IsAsked}
 use Rattle.pipeline.proofs.KeyedLemmas.{zip_push}
-use Rattle.std.proofs.lemmas.Slice.Zip.{AllZip-long}
 
 -- ---- look-ups behind a list
 

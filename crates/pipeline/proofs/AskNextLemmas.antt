@@ -8,11 +8,11 @@ use Rattle.lin_model.specs.Conditions.{PlainCondition, IsCondition}
 use Rattle.slicer.specs.Laws.{SlicesPartition}
 use Rattle.refutation.specs.Laws.{RefutedHasNoPoint}
 use Rattle.refutation.specs.Tree.{PlainTree}
+use Rattle.refutation.specs.declared.leaf.LeafTerm.{LeafTerm}
+use Rattle.refutation.specs.declared.node.Node.{Node}
 use Rattle.box_solver.specs.declared.found.Found.{Found}
 use Rattle.box_solver.specs.declared.found.Found.TheVariants.{Model as FoundModel, Refuted as FoundRefuted, Spent as FoundSpent}
 use Rattle.box_solver.specs.Answer.{IsAnswer}
-use Rattle.refutation.specs.declared.leaf.LeafTerm.{LeafTerm}
-use Rattle.refutation.specs.declared.node.Node.{Node}
 use Rattle.pipeline.specs.declared.slice_keys.SliceKey.{SliceKey}
 use Rattle.pipeline.specs.declared.answer.PlainPart.{PlainPart}
 use Rattle.pipeline.specs.declared.answer.PlainPart.TheVariants.{Solved, Open}

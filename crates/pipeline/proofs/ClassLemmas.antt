@@ -10,6 +10,7 @@ use Rattle.lin_model.specs.Truth.{AtomHolds, IsAssignment, InBounds}
 use Rattle.lin_model.specs.Conditions.{PlainCondition, Fits, Holds, IsSatisfiable}
 use Rattle.lin_model.specs.declared.atom.Atom.{Atom}
 use Rattle.lin_model.specs.Key.{KeyHolds}
+use Rattle.lin_model.specs.Lists.{AllZip-at}
 use Rattle.slicer.specs.Slices.{PlainSlice, IsFront}
 use Rattle.slicer.specs.Names.{NamesNothingAt}
 use Rattle.slicer.specs.Laws.{SlicesPartition, AreApart}
@@ -18,7 +19,7 @@ use Rattle.refutation.specs.Reading.{HasNoPoint}
 use Rattle.pipeline.specs.declared.slice_keys.SliceKey.{SliceKey}
 use Rattle.pipeline.specs.Keyed.{HoldsAt, IsKeyed, AreKeyed}
 use Rattle.pipeline.proofs.AskLemmas.{AreOthers}
-use Rattle.pipeline.proofs.SliceLemmas.{zip_at, atom_holds_at}
+use Rattle.pipeline.proofs.SliceLemmas.{atom_holds_at}
 
 -- ---- lists
 
@@ -48,7 +49,7 @@ all_picked {X} P xs (j ∷ js) all = one_picked P xs j (filter_map (λ i. slice_
 -- ---- keys of slices
 
 keyed_at : (q : PlainCondition) (keys : List SliceKey) (h : AreKeyed q keys) (i : ℕ) (s : PlainSlice) (k : SliceKey) → i < length keys → IsKeyed q (get_or h.are.classes i s) (get_or keys i k)
-keyed_at q keys h i s k lt = zip_at (IsKeyed q) h.are.classes keys i s k h.each (omega (arith, lt, AllZip-long (IsKeyed q) h.are.classes keys h.each))
+keyed_at q keys h i s k lt = AllZip-at (IsKeyed q) h.are.classes keys i s k h.each (omega (arith, lt, AllZip-long (IsKeyed q) h.are.classes keys h.each))
 
 abbrev pub no_slice : PlainSlice
 no_slice = record { vars = []; atoms = [] }

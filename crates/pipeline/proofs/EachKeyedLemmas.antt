@@ -5,9 +5,9 @@ use Rattle.std.proofs.Math.Seq.{take-length}
 use Rattle.std.proofs.lemmas.List.{get_or_default}
 use Rattle.std.proofs.lemmas.List.Elements.{All-cons, All-nil, All-head, All-tail}
 use Rattle.lin_model.specs.Conditions.{PlainCondition, IsCondition}
+use Rattle.lin_model.specs.Lists.{Contains-first, Contains-later}
 use Rattle.slicer.specs.Slices.{PlainSlice, AreSlices}
 use Rattle.slicer.specs.Laws.{EachHasSlices, SlicesPartition}
-use Rattle.slicer.proofs.ElementLemmas.{Contains-first, Contains-later}
 use Rattle.canoniser.specs.declared.canonical.Canonical.{Canonical}
 use Rattle.canoniser.specs.declared.canonical.Canonical.TheVariants.{False, Key}
 use Rattle.canoniser.specs.Answers.{Canonises}

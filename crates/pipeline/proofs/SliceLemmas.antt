@@ -3,7 +3,6 @@ use Rattle.std.proofs.Common.{◌≡◌, ◌↔◌, ℕ, zero, suc, ◌<◌, ℤ
 use Rattle.std.specs.List.{All, Any, AllZip, Contains, filter_map, cons_option}
 use Rattle.std.proofs.lemmas.Bool.{ltb-false}
 use Rattle.std.proofs.lemmas.Slice.Zip.{AllZip-long}
-use Rattle.std.proofs.lemmas.Option.{slice_get_within}
 use Rattle.std.proofs.lemmas.List.Elements.{All-head, All-tail}
 use Rattle.lin_model.specs.Truth.{AtomHolds, IsAssignment}
 use Rattle.lin_model.specs.Test.{passes}
@@ -11,6 +10,7 @@ use Rattle.lin_model.specs.Conditions.{PlainCondition, Fits}
 use Rattle.lin_model.specs.declared.atom.Atom.{Atom}
 use Rattle.lin_model.specs.KeyAtom.{PlainKeyAtom}
 use Rattle.lin_model.specs.Key.{KeyHolds}
+use Rattle.lin_model.specs.Lists.{nil_from_none, Found-at, within_from_IsSomeAnd, AllZip-at}
 use Rattle.slicer.specs.Slices.{PlainSlice, AreSlices, IsSliceOf, least, IsVariableFree, IsFront}
 use Rattle.slicer.specs.Names.{NamesNothingAt, atom_vars}
 use Rattle.slicer.specs.Linked.{alone}
@@ -29,14 +29,6 @@ use Rattle.pipeline.specs.Keyed.{HoldsAt, IsKeyed, AreKeyed, HasKey, IsNotBelow,
 
 -- ---- lists
 
--- the pair at a place
-pub zip_at : {A B : Type 0} (R : A → B → Type 0) (xs : List A) (ys : List B) (k : ℕ) (d : A) (e : B) → AllZip R xs ys → k < length xs → R (get_or xs k d) (get_or ys k e)
-zip_at {A} {B} R [] [] k d e h lt = absurd (omega arith)
-zip_at {A} {B} R [] (y ∷ ys) k d e h lt = absurd h
-zip_at {A} {B} R (x ∷ xs) [] k d e h lt = absurd h
-zip_at {A} {B} R (x ∷ xs) (y ∷ ys) zero d e h lt = h.0
-zip_at {A} {B} R (x ∷ xs) (y ∷ ys) (suc k) d e h lt = zip_at R xs ys k d e h.1 (omega arith)
-
 -- what holds of all that is kept holds of one that is
 cons_head : {Y : Type 0} (P : Y → Type 0) (o : Option Y) (ys : List Y) (y : Y) → o ≡ Some y → All P (cons_option o ys) → P y
 cons_head {Y} P None ys y e all = absurd (cc)
@@ -50,10 +42,6 @@ pub All-filter_map : {X Y : Type 0} (h : X → Option Y) (P : Y → Type 0) (xs 
 All-filter_map {X} {Y} h P [] x y all (k, lt, is) kept = absurd (omega arith)
 All-filter_map {X} {Y} h P (w ∷ xs) x y all (zero, lt, is) kept = cons_head P (h w) (filter_map h xs) y (ap h is ∙ kept) all
 All-filter_map {X} {Y} h P (w ∷ xs) x y all (suc k, lt, is) kept = All-filter_map h P xs x y (cons_tail P (h w) (filter_map h xs) all) (k, omega arith, is) kept
-
-no_member : {X : Type 0} (xs : List X) → ((x : X) → Contains xs x → ⊥) → xs ≡ []
-no_member {X} [] h = refl
-no_member {X} (x ∷ xs) h = absurd (h x (0, omega arith, refl))
 
 -- ---- atoms that no integers satisfy
 
@@ -83,16 +71,12 @@ find_slice q slices cs i law fits are zip lt = of ((law q slices fits.in_range a
       place = k;
       within = omega (arith, within, AllZip-long (Canonises q) slices cs zip);
       has = has;
-      each = λ e. subst (λ (x : PlainSlice). Canonises q x (get_or cs k e)) is (zip_at (Canonises q) slices cs k s e zip within);
+      each = λ e. subst (λ (x : PlainSlice). Canonises q x (get_or cs k e)) is (AllZip-at (Canonises q) slices cs k s e zip within);
     }
 
 -- there is an atom of this number
 has_number : (q : PlainCondition) (i : ℕ) → IsNeverAt q i → i < length q.atoms
-has_number q i bad = of (slice_get q.atoms i) refl bad
-  where
-    of : (o : Option Atom) → slice_get q.atoms i ≡ o → IsSomeAnd o IsNever → i < length q.atoms
-    of None e k = absurd k
-    of (Some atom) e k = slice_get_within q.atoms i atom e
+has_number q i bad = within_from_IsSomeAnd q.atoms IsNever i bad
 
 pub least_is_never : (q : PlainCondition) (slices : List PlainSlice) (cs : List Canonical) (j : ℕ) → SlicesPartition → Fits q.vars q.atoms → AreSlices q slices → AllZip (Canonises q) slices cs → IsLeastFalse cs j → IsLeastNever q j
 least_is_never q slices cs j law fits are zip false_j = record {
@@ -101,7 +85,7 @@ least_is_never q slices cs j law fits are zip false_j = record {
 }
   where
     told : Contains cs (False j) → IsNeverAt q j
-    told (k, lt, is) = let within : k < length slices = omega (arith, lt, AllZip-long (Canonises q) slices cs zip) in (subst (Canonises q (get_or slices k (record { vars = []; atoms = [] }))) is (zip_at (Canonises q) slices cs k (record { vars = []; atoms = [] }) (False j) zip within)).never
+    told (k, lt, is) = let within : k < length slices = omega (arith, lt, AllZip-long (Canonises q) slices cs zip) in (subst (Canonises q (get_or slices k (record { vars = []; atoms = [] }))) is (AllZip-at (Canonises q) slices cs k (record { vars = []; atoms = [] }) (False j) zip within)).never
 
 none_is_never : (q : PlainCondition) (slices : List PlainSlice) (cs : List Canonical) → SlicesPartition → Fits q.vars q.atoms → AreSlices q slices → AllZip (Canonises q) slices cs → All HasKey cs → NoneIsNever q
 none_is_never q slices cs law fits are zip keys i bad =
@@ -125,7 +109,7 @@ some_width [] (y ∷ ys) same lt = absurd (no_such ((same y).1 (0, omega arith, 
 some_width (x ∷ xs) ys same lt = above_zero (length xs)
 
 no_width : (xs : List ℕ) → ((v : ℕ) → Contains xs v ↔ Contains [] v) → xs ≡ []
-no_width xs same = no_member xs (λ v has. no_such v ((same v).0 has))
+no_width xs same = nil_from_none xs (λ v has. no_such v ((same v).0 has))
   where
     no_such : (v : ℕ) → Contains [] v → ⊥
     no_such v (k, l, is) = omega arith
@@ -165,7 +149,7 @@ says_nothing atom a comes = by_truth (passes (op_of atom.cmp) (loose atom.cmp (c
 
 -- a slice without variables has the empty key
 no_key : (q : PlainCondition) (s : PlainSlice) (key : List PlainKeyAtom) (back : List ℕ) → IsCanonised q s back key → back ≡ [] → key ≡ []
-no_key q s key back h none = no_member key (λ a has. of a ((h.is_key.just a).0 has).one)
+no_key q s key back h none = nil_from_none key (λ a has. of a ((h.is_key.just a).0 has).one)
   where
     empty : order_of q s ≡ []
     empty = sym h.numbered ∙ none
@@ -186,17 +170,11 @@ always_holds q s (Key key back) none h is values assigned =
     let empty : back ≡ [] = no_width back (subst (λ (vs : List ℕ). (v : ℕ) → Contains back v ↔ Contains vs v) none h.vars) in
     (h.same values assigned).1 (subst (λ (k : List PlainKeyAtom). KeyHolds k (point_of back values)) (sym (no_key q s key back h empty)) (λ k d lt. absurd (omega arith)))
 
--- there is an item at a place below the length
-there : {X : Type 0} (xs : List X) (i : ℕ) → i < length xs → slice_get xs i ≡ None → ⊥
-there {X} [] i lt e = omega (arith, lt)
-there {X} (x ∷ xs) zero lt e = absurd (cc)
-there {X} (x ∷ xs) (suc i) lt e = there xs i (omega (arith, lt)) e
-
 pub atom_holds_at : (q : PlainCondition) (s : PlainSlice) (values : List ℤ) (j : ℕ) → SliceHolds q s values → Contains s.atoms j → j < length q.atoms → HoldsAt q values j
 atom_holds_at q s values j holds has lt = of (slice_get q.atoms j) refl
   where
     of : (o : Option Atom) → slice_get q.atoms j ≡ o → IsSomeAnd o (λ atom. AtomHolds atom values)
-    of None e = absurd (there q.atoms j lt e)
+    of None e = let there = (Found-at q.atoms j lt).is in absurd (cc)
     of (Some atom) e = All-filter_map (λ j. slice_get q.atoms j) (λ atom. AtomHolds atom values) s.atoms j atom holds has e
 
 -- ---- the keys
@@ -224,11 +202,7 @@ one_front q s slices are (Key key back ∷ cs) free zip keys possible = record {
     empty = no_width back (subst (λ (vs : List ℕ). (v : ℕ) → Contains back v ↔ Contains vs v) free.vars zip.0.vars)
 
     has_atom : (j : ℕ) → NamesNothingAt q.atoms j → j < length q.atoms
-    has_atom j names = of (slice_get q.atoms j) refl names
-      where
-        of : (o : Option Atom) → slice_get q.atoms j ≡ o → IsSomeAnd o (λ atom. atom_vars atom ≡ []) → j < length q.atoms
-        of None e k = absurd k
-        of (Some atom) e k = slice_get_within q.atoms j atom e
+    has_atom j names = within_from_IsSomeAnd q.atoms (λ atom. atom_vars atom ≡ []) j names
 
 pub keys_are_keyed : (q : PlainCondition) (slices : List PlainSlice) (cs : List Canonical) → SlicesPartition → Fits q.vars q.atoms → AreSlices q slices → AllZip (Canonises q) slices cs → All HasKey cs → AreKeyed q (keys_in cs)
 keys_are_keyed q slices cs law fits are zip keys = of are.front are.variable_free are.joined

@@ -5,6 +5,7 @@ use Rattle.std.proofs.lemmas.List.{length-take, get_or-take}
 use Rattle.std.proofs.lemmas.Option.{slice_get_within, get_or_from_slice_get}
 use Rattle.std.proofs.lemmas.Slice.Zip.{AllZip-long}
 use Rattle.lin_model.specs.Conditions.{PlainCondition}
+use Rattle.lin_model.specs.Lists.{within_from_IsSomeAnd}
 use Rattle.slicer.specs.Slices.{PlainSlice}
 use Rattle.pipeline.specs.declared.answer.Told.{Told}
 use Rattle.pipeline.specs.declared.answer.Told.TheVariants.{Sat, UnsatAtom, UnsatSlice, Unknown}
@@ -56,19 +57,13 @@ none_open parts s all some = of (slice_get parts s) refl some
         let solved = all s (Open tree) (slice_get_within parts s (Open tree) e) in
         absurd (cc (here, solved))
 
--- a number at which something stands is a number of the list
-within_some : {X : Type 0} (P : X → Type 0) (xs : List X) (i : ℕ) → IsSomeAnd (slice_get xs i) P → i < length xs
-within_some P [] i some = absurd some
-within_some P (x ∷ xs) zero some = omega arith
-within_some P (x ∷ xs) (suc i) some = omega (arith, within_some P xs i some)
-
 -- where the budget is at least the room of each key that was asked, each part was solved
 all_solved : (budget : ℕ) (q : PlainCondition) (classes : List PlainSlice) (verdict : Told) (parts : List PlainPart) → IsRightVerdict budget q classes verdict parts → All (HasRoomWithin budget q) (take (length parts) classes) → All (λ part. part ≡ Solved) parts
 all_solved budget q classes (Sat values) parts right within = right.solved
 all_solved budget q classes (UnsatAtom j) parts right within = λ k d lt. absurd (omega (arith, lt, ap length right.none_asked))
 all_solved budget q classes (UnsatSlice s) parts right within =
     λ k d lt. solved_up_to budget q classes parts s k d right.asked right.before right.last lt
-    (read_front (HasRoomWithin budget q) classes (length parts) k no_slice within lt (omega (arith, lt, right.asked, within_some _ classes s right.refuted)))
+    (read_front (HasRoomWithin budget q) classes (length parts) k no_slice within lt (omega (arith, lt, right.asked, within_from_IsSomeAnd classes _ s right.refuted)))
 all_solved budget q classes (Unknown s) parts right within =
     λ k d lt. solved_at budget q classes parts k d right.left lt
     (read_front (HasRoomWithin budget q) classes (length parts) k no_slice within lt (omega (arith, lt, AllZip-long (Leaves budget q) classes parts right.left)))

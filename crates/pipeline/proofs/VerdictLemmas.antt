@@ -5,6 +5,7 @@ use Rattle.std.proofs.Math.Seq.{take-append_seam}
 use Rattle.std.proofs.lemmas.List.{length_push}
 use Rattle.std.proofs.lemmas.List.Elements.{All-nil, All-cons}
 use Rattle.std.proofs.lemmas.Option.{slice_get_within, get_or_from_slice_get}
+use Rattle.std.proofs.lemmas.Slice.Zip.{AllZip-long}
 use Rattle.lin_model.specs.Truth.{AtomHolds}
 use Rattle.lin_model.specs.declared.atom.Atom.{Atom}
 use Rattle.lin_model.specs.Conditions.{PlainCondition, Fits, IsSatisfiable}
@@ -19,7 +20,6 @@ use Rattle.pipeline.specs.Answers.{IsModelOf, IsRefuted, IsGivenBy, Leaves, HasN
 use Rattle.pipeline.specs.Keyed.{IsKeyed, AreKeyed, IsImpossible}
 use Rattle.pipeline.specs.Asking.{KeyLeaves, IsMet, IsAsked}
 use Rattle.pipeline.proofs.AskLemmas.{get-last, all_met}
-use Rattle.std.proofs.lemmas.Slice.Zip.{AllZip-long}
 use Rattle.pipeline.proofs.ClassLemmas.{no_slice, keyed, unsat_by_slice, sat_by_keys}
 
 -- ---- from keys to slices

@@ -1,4 +1,4 @@
-//! Laws of right answers, each the contract of a function that does nothing.
+//! Laws of answers, each the contract of a function that does nothing, or only calls such laws of crates below.
 ghost use Rattle.pipeline.specs.Laws.{EachHasAnswer, SufficientDecides};
 
 use canoniser::keys_exist;

@@ -1,33 +1,13 @@
--- Laws of sums, products and the order of integers.
-use Rattle.std.proofs.Common.{◌≡◌, ℕ, suc, ◌+◌, ◌*◌, ◌^◌, ◌≤◌, ℤ, pos, negsuc, ◌+ℤ◌, ◌*ℤ◌, ◌≤ℤ◌, false, int_lt, unsigned_abs, to_z, of_z, arith, ap, ◌∙◌}
+-- A test of an order that fails, and the size of products of integers.
+use Rattle.std.proofs.Common.{◌≡◌, ◌+◌, ◌^◌, ◌≤◌, ℤ, ◌*ℤ◌, ◌≤ℤ◌, false, int_lt, unsigned_abs, to_z, of_z, arith, ap, ◌∙◌}
 use Rattle.std.specs.Int.{w128}
 use Rattle.std.proofs.lemmas.Bool.{false_from_ne_true}
-use Rattle.std.proofs.Math.Nat.{mul-le-mul_left, mul-le-mul}
+use Rattle.std.proofs.Math.Nat.{mul-le-mul}
 use Rattle.std.proofs.lemmas.Int.{ints, to_z-of_z, unsigned_abs-mul, fits_signed_from_abs}
-use borrow.Author.Differences.{up, down, sum_is_lem, product_is, le_out}
-
-pub distrib_right : (a b c : ℤ) → (a +ℤ b) *ℤ c ≡ (a *ℤ c) +ℤ (b *ℤ c)
-distrib_right a b c =
-    omega (arith, ints, ap (λ (x : ℕ). x * up c) (sum_is_lem a b), ap (λ (x : ℕ). x * down c) (sum_is_lem a b))
-
-pub distrib_left : (a b c : ℤ) → a *ℤ (b +ℤ c) ≡ (a *ℤ b) +ℤ (a *ℤ c)
-distrib_left a b c =
-    omega (arith, ints, ap (λ (x : ℕ). up a * x) (sum_is_lem b c), ap (λ (x : ℕ). down a * x) (sum_is_lem b c))
-
-pub times_assoc : (a b c : ℤ) → (a *ℤ b) *ℤ c ≡ a *ℤ (b *ℤ c)
-times_assoc a b c =
-    omega (arith, ints, ap (λ (x : ℕ). x * up c) (product_is a b).0, ap (λ (x : ℕ). x * down c) (product_is a b).0, ap (λ (x : ℕ). x * up c) (product_is a b).1, ap (λ (x : ℕ). x * down c) (product_is a b).1, ap (λ (x : ℕ). up a * x) (product_is b c).0, ap (λ (x : ℕ). down a * x) (product_is b c).0, ap (λ (x : ℕ). up a * x) (product_is b c).1, ap (λ (x : ℕ). down a * x) (product_is b c).1)
 
 -- the test of an order that is the other way
 pub int_lt-false : (n m : ℤ) → m ≤ℤ n → int_lt n m ≡ false
 int_lt-false n m le = false_from_ne_true (int_lt n m) (λ less. omega (arith, ints, less, le))
-
--- a factor that isn't negative keeps the order, a negative one turns it
-pub scale_up : (n : ℕ) (x y : ℤ) → x ≤ℤ y → (pos n *ℤ x) ≤ℤ (pos n *ℤ y)
-scale_up n x y h = omega (arith, ints, mul-le-mul_left n (le_out x y h))
-
-pub scale_down : (n : ℕ) (x y : ℤ) → x ≤ℤ y → (negsuc n *ℤ y) ≤ℤ (negsuc n *ℤ x)
-scale_down n x y h = omega (arith, ints, mul-le-mul_left (suc n) (le_out x y h))
 
 -- a product of a number of at most 80 bits with a side fits 128 bits, and is at most 2^114 in size
 product_size : (a b : ℤ) → unsigned_abs a ≤ 2 ^ 80 → unsigned_abs b ≤ 2 ^ 32 + 1 → unsigned_abs (a *ℤ b) ≤ 2 ^ 114

@@ -1,32 +1,19 @@
 -- A key that bounds each of its variables on both sides has both sides of each.
 use Rattle.std.proofs.Common.{◌≡◌, ◌⊎◌, ⊎_elim, ℕ, zero, suc, ◌<◌, ◌≤◌, ℤ, neg_ℤ, ◌≤ℤ◌, Bool, true, false, cond, Option, Some, None, is_some, List, [], ◌∷◌, length, get_or, arith, refl, ap, sym, subst, ◌∙◌, int_lt}
 use Rattle.std.specs.Int.{int_min, int_max}
-use Rattle.std.specs.List.{All, Any}
+use Rattle.std.specs.List.{Any}
 use Rattle.std.proofs.lemmas.Bool.{eq-eqb}
 use Rattle.std.proofs.lemmas.List.FromFn.{get_or-map-range_with_len}
 use Rattle.lin_model.specs.declared.form.FormTerm.{FormTerm}
 use Rattle.lin_model.specs.declared.op.Op.{Op}
 use Rattle.lin_model.specs.declared.op.Op.TheVariants.{Le, Ge, Eq}
-use Rattle.lin_model.specs.Form.{form_width}
-use Rattle.lin_model.specs.KeyAtom.{PlainKeyAtom, IsCanonical}
+use Rattle.lin_model.specs.KeyAtom.{PlainKeyAtom}
 use Rattle.lin_model.specs.Key.{IsKey, key_width}
+use Rattle.lin_model.specs.Facts.{key-narrow}
 use Rattle.lin_model.specs.Bounded.{variable, GivesLower, GivesUpper, IsBounded}
 use Rattle.refutation.specs.Bounds.{side_limit, lower_side, upper_side, lower_by, upper_by, is_variable, tighter_lower, tighter_upper, lower_from, upper_from, lower_bound, upper_bound, key_bounds, variables}
 use Rattle.refutation.specs.Boxed.{IsBoxed}
 use Rattle.refutation.proofs.Arithmetic.{int_lt-false}
-
--- ---- the width of a key
-
-form-width : (form : List FormTerm) → All (λ t. t.var < 64) form → form_width form ≤ 64
-form-width [] h = omega arith
-form-width (t ∷ ts) h = omega (arith, h 0 t (omega arith), form-width ts (λ k d lt. h (suc k) d (omega arith)))
-
-keys-width : (atoms : List PlainKeyAtom) → All IsCanonical atoms → key_width atoms ≤ 64
-keys-width [] h = omega arith
-keys-width (a ∷ atoms) h = omega (arith, form-width a.form (h 0 a (omega arith)).form.variables.in_range, keys-width atoms (λ k d lt. h (suc k) d (omega arith)))
-
-pub key-narrow : (key : List PlainKeyAtom) → IsKey key → key_width key ≤ 64
-key-narrow key h = keys-width key h.canonical
 
 -- ---- the side that one atom gives
 

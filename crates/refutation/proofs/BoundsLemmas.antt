@@ -1,31 +1,19 @@
 -- Bounds, side by side.
-use Rattle.std.proofs.Common.{◌≡◌, ℕ, zero, suc, ◌+◌, ◌<◌, ◌≤◌, ℤ, pos, ◌+ℤ◌, true, false, cond, eqb, Option, Some, None, List, [], ◌∷◌, length, get_or, set, drop, replicate, ⊎_elim, refl, ap, sym, ◌∙◌, subst, arith}
+use Rattle.std.proofs.Common.{◌≡◌, ℕ, zero, suc, ◌+◌, ◌<◌, ◌≤◌, ℤ, pos, ◌+ℤ◌, false, cond, eqb, Option, Some, None, List, [], ◌∷◌, length, get_or, set, drop, replicate, ⊎_elim, refl, ap, sym, ◌∙◌, subst, arith}
 use Rattle.std.specs.Int.{int_max, int_min}
-use Rattle.std.proofs.lemmas.List.Folds.{list_any-from_Any, list_any_none}
+use Rattle.std.proofs.lemmas.List.Folds.{list_any_none}
 use Rattle.std.proofs.lemmas.Bool.{cases_lt, cases_eq, cond-true, cond-false, eq-eqb, ne_eqb}
 use Rattle.std.proofs.lemmas.Int.{ints, clamps}
 use Rattle.std.proofs.lemmas.List.{get_or-set_same, get_or-set_other, length-replicate, drop_more}
 use Rattle.std.proofs.Math.ListN.{drop_of_length-le}
 use Rattle.std.proofs.lemmas.List.Elements.{All-same, All-replicate}
-use Rattle.std.proofs.lemmas.List.FromFn.{fill_by_all, get_or-range_with_len, length-range_with_len}
+use Rattle.std.proofs.lemmas.List.FromFn.{fill_by_all}
 use Rattle.lin_model.specs.declared.form.FormTerm.{FormTerm}
 use Rattle.lin_model.specs.KeyAtom.{PlainKeyAtom, AscendsBelow64}
 use Rattle.refutation.specs.Bounds.{PlainBounds, lower_of, upper_of, variables, tighter_lower, tighter_upper, lower_from, upper_from, lower_bound, upper_bound, key_bounds, with_lower, with_upper, crosses, is_empty, AreBounds, IsSide, add_known, scaled_side, least, greatest}
+use Rattle.refutation.specs.Facts.{variable-at, variables-length}
 
 -- ---- emptiness
-
-variable-at : (v d : ℕ) → v < 64 → get_or variables v d ≡ v
-unfolding variables
-variable-at v d lt = get_or-range_with_len 0 64 v d lt ∙ omega arith
-
-variables-length : length variables ≡ 64
-unfolding variables
-variables-length = length-range_with_len 0 64
-
-pub is_empty-true : (b : PlainBounds) (v : ℕ) → v < 64 → crosses (lower_of b v) (upper_of b v) ≡ true → is_empty b ≡ true
-unfolding is_empty
-is_empty-true b v lt h =
-    list_any-from_Any (λ w. crosses (lower_of b w) (upper_of b w)) variables (v, v, omega (arith, variables-length), variable-at v v lt, h)
 
 pub is_empty-false : (b : PlainBounds) → ((v : ℕ) → v < 64 → crosses (lower_of b v) (upper_of b v) ≡ false) → is_empty b ≡ false
 unfolding is_empty

@@ -5,9 +5,9 @@ use Rattle.std.proofs.lemmas.Int.{ints, clamps}
 use Rattle.lin_model.specs.declared.op.Op.{Op}
 use Rattle.lin_model.specs.declared.op.Op.TheVariants.{Le, Ge, Eq, Ne}
 use Rattle.lin_model.specs.KeyAtom.{PlainKeyAtom}
-use Rattle.refutation.proofs.Points.{over_variables, if_some}
 use Rattle.refutation.specs.Bounds.{PlainBounds, side_limit, lower_side, upper_side, lower_by, upper_by, is_variable, tighter_lower, tighter_upper, lower_bound, upper_bound, key_bounds}
 use Rattle.refutation.specs.Boxed.{HasShortSides}
+use Rattle.refutation.proofs.Points.{over_variables, if_some}
 
 -- a side of at most 2^32 in size
 abbrev Short : Option ℤ → Type 0

@@ -13,6 +13,8 @@ use Rattle.lin_model.specs.Form.{value_at, form_value}
 use Rattle.lin_model.specs.KeyAtom.{PlainKeyAtom, KeyAtomHolds}
 use Rattle.lin_model.specs.Key.{KeyHolds, IsKey}
 use Rattle.lin_model.specs.Test.{passes}
+use Rattle.lin_model.specs.Lists.{chosen, All-at}
+use Rattle.lin_model.specs.Integers.{scale_up, scale_down}
 use Rattle.refutation.specs.declared.side.Side.{Side}
 use Rattle.refutation.specs.declared.leaf.LeafTerm.{LeafTerm}
 use Rattle.refutation.specs.declared.leaf.On.{On}
@@ -20,8 +22,7 @@ use Rattle.refutation.specs.declared.leaf.On.TheVariants.{Atom as OnAtom, Side a
 use Rattle.refutation.specs.Bounds.{PlainBounds, lower_of, upper_of, variables, crosses, is_empty, least, greatest, IsWithin}
 use Rattle.refutation.specs.Box.{PlainBox, beside, side_atom, IsInBox}
 use Rattle.refutation.specs.Leaf.{PlainLeaf, combo, fixed, empty, named, is_factor, is_positive_factor, weight, weighted, Multiple, multiple_of, multiples_of, summed_constant, summed_form, is_positive_sum, combo_closes, fails_fixed, fixed_closes, closes}
-use Rattle.refutation.proofs.Arithmetic.{scale_up, scale_down}
-use Rattle.refutation.proofs.LookUps.{chosen, test_found, bound_some, mapped_some, All-at}
+use Rattle.refutation.proofs.LookUps.{test_found, bound_some, mapped_some}
 use Rattle.refutation.proofs.Sums.{least-below, greatest-above, total_of, summed_form-value}
 
 -- ---- an empty box has no point

@@ -8,13 +8,13 @@ use Rattle.std.proofs.lemmas.List.{take_more, length-take}
 use Rattle.std.proofs.lemmas.List.FromFn.{get_or-map-range_with_len, length-map-range_with_len, fill_by_all}
 use Rattle.lin_model.specs.declared.form.FormTerm.{FormTerm}
 use Rattle.lin_model.specs.KeyAtom.{PlainKeyAtom}
-use Rattle.refutation.proofs.LookUps.{bound_some, mapped_some}
 use Rattle.refutation.specs.declared.leaf.LeafTerm.{LeafTerm}
 use Rattle.refutation.specs.declared.side.Side.{Side}
 use Rattle.refutation.specs.Bounds.{PlainBounds, variables, least, greatest}
 use Rattle.refutation.specs.Box.{PlainBox}
 use Rattle.refutation.specs.Leaf.{coefficient_of, Multiple, multiple_of, multiples_of, summed_coefficient, summed_constant, summed_form, is_positive_sum, combo_closes, fails_fixed, fixed_closes}
 use Rattle.refutation.specs.Sum.{PlainSum, coef_at, dense_form, is_positive_within, AddsMultiple, AddsIfSome}
+use Rattle.refutation.proofs.LookUps.{bound_some, mapped_some}
 
 -- ---- Fixed
 

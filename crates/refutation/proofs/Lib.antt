@@ -1,20 +1,20 @@
-pub mod UnitTerms
-pub mod Worked
-pub mod WorkedCuts
-pub mod WorkedGlance
-pub mod WorkedTrees
-pub mod Arithmetic
-pub mod LookUps
-pub mod Points
-pub mod Sums
-pub mod ClosedBoxes
-pub mod Soundness
-pub mod BoundsLemmas
-pub mod SumLemmas
-pub mod LeafLemmas
-pub mod WalkLemmas
-pub mod ReadingLemmas
-pub mod BoxedLemmas
-pub mod BoundedLemmas
-pub mod SplitLemmas
-pub mod RoomLemmas
+mod UnitTerms
+mod Worked
+mod WorkedCuts
+mod WorkedGlance
+mod WorkedTrees
+mod Arithmetic
+mod LookUps
+mod Points
+mod Sums
+mod ClosedBoxes
+mod Soundness
+mod BoundsLemmas
+mod SumLemmas
+mod LeafLemmas
+mod WalkLemmas
+mod ReadingLemmas
+mod BoxedLemmas
+mod BoundedLemmas
+mod SplitLemmas
+mod RoomLemmas

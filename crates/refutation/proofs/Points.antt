@@ -17,10 +17,11 @@ use Rattle.lin_model.specs.Form.{value_at, form_value}
 use Rattle.lin_model.specs.KeyAtom.{PlainKeyAtom, KeyAtomHolds}
 use Rattle.lin_model.specs.Key.{KeyHolds}
 use Rattle.lin_model.specs.Test.{passes}
-use Rattle.refutation.proofs.LookUps.{All-at, test_found}
+use Rattle.lin_model.specs.Lists.{All-at}
 use Rattle.refutation.specs.Bounds.{PlainBounds, lower_of, upper_of, variables, side_limit, lower_side, upper_side, is_variable, lower_by, upper_by, tighter_lower, tighter_upper, lower_bound, upper_bound, key_bounds, with_lower, with_upper, IsWithin}
 use Rattle.refutation.specs.Box.{PlainBox, root_box, beside, side_atom, IsInBox, is_ne, is_ne_op, left_half, right_half, on_side}
 use Rattle.refutation.specs.Reading.{names_ne}
+use Rattle.refutation.proofs.LookUps.{test_found}
 
 -- ---- tests
 

@@ -1,5 +1,5 @@
 -- One node of a tree after another: what the code's answers say of the reading.
-use Rattle.std.proofs.Common.{◌≡◌, ℕ, ℤ, ◌+◌, ◌-◌, ◌<◌, ◌≤◌, Bool, true, false, cond, ◌&&◌, Option, Some, None, Result, IfOk, IsTrue, ◌↔◌, List, [], ◌∷◌, ◌++◌, length, get_or, take, drop, nat_le, refl, ap, sym, ◌∙◌, subst, arith, add-one}
+use Rattle.std.proofs.Common.{◌≡◌, ℕ, ℤ, ◌+◌, ◌-◌, ◌<◌, ◌≤◌, Bool, true, false, cond, ◌&&◌, Option, Some, None, Result, IfOk, List, [], ◌∷◌, ◌++◌, length, get_or, take, drop, nat_le, refl, ap, sym, ◌∙◌, subst, arith, add-one}
 use Rattle.std.specs.Option.{option_map_or}
 use Rattle.std.proofs.lemmas.List.{drop_more, length-drop, drop-drop}
 use Rattle.std.proofs.Math.Seq.{take-length}
@@ -113,16 +113,6 @@ reading-refuted key i terms at whole le h = sym h ∙ ap (λ (ts : List LeafTerm
 pub reading-term_left : (key : List PlainKeyAtom) (i : ℕ) (terms : List LeafTerm) (at : ℕ) (d : LeafTerm) (whole : Ending) → at < length terms → reading key i [] (drop at terms) [] ≡ whole → whole ≡ goes_on
 unfolding reading
 reading-term_left key i terms at d whole lt h = sym h ∙ ap (λ (ts : List LeafTerm). reading key i [] ts []) (drop_more terms at d lt)
-
--- ---- whether a box is at hand
-
-pub no_box : (boxes : List PlainBox) (open_ : Bool) → (IsTrue open_ ↔ (0 < length boxes)) → open_ ≡ false → boxes ≡ []
-no_box [] open_ h is = refl
-no_box (box ∷ boxes) open_ h is = let yes' : open_ ≡ true = h.1 (omega arith) in absurd (cc)
-
-pub some_box : (boxes : List PlainBox) (open_ : Bool) → (IsTrue open_ ↔ (0 < length boxes)) → open_ ≡ true → (box : PlainBox) × (rest : List PlainBox) × (boxes ≡ box ∷ rest)
-some_box [] open_ h is = absurd (omega (arith, h.0 is))
-some_box (box ∷ boxes) open_ h is = (box, boxes, refl)
 
 -- the slice of the terms not yet taken
 pub rest_slice : (terms : List LeafTerm) (n : ℕ) → take (length terms - n) (drop n terms) ≡ drop n terms

@@ -9,6 +9,8 @@ use Rattle.std.proofs.lemmas.List.Elements.{All-nil, All-cons, All-append, All-h
 use Rattle.std.proofs.lemmas.List.Sums.{sum_by-append}
 use Rattle.lin_model.specs.KeyAtom.{PlainKeyAtom}
 use Rattle.lin_model.specs.Key.{IsKey, key_width}
+use Rattle.lin_model.specs.Lists.{chosen, Found-from}
+use Rattle.lin_model.specs.Facts.{key-narrow}
 use Rattle.refutation.specs.declared.leaf.LeafTerm.{LeafTerm}
 use Rattle.refutation.specs.declared.node.Node.{Node}
 use Rattle.refutation.specs.declared.node.Node.TheVariants.{Split, NeSplit, Combo, Fixed, Empty, Left}
@@ -19,8 +21,7 @@ use Rattle.refutation.specs.Boxed.{IsBoxed, IsBoxedIn}
 use Rattle.refutation.specs.Leaf.{combo, fixed, empty, closes}
 use Rattle.refutation.specs.Reading.{Treated, treated, closed_by, is_split, names_ne}
 use Rattle.refutation.specs.SearchTree.{Rule, KeepsRule, IsFairSplit, IsUndecided, decided, Searches, is_inner, is_left, inner_count, FirstLeftIsUndecided, IsOpenTree, points_over, doubling, room}
-use Rattle.refutation.proofs.LookUps.{chosen, test_found, some_and}
-use Rattle.refutation.proofs.BoundedLemmas.{key-narrow}
+use Rattle.refutation.proofs.LookUps.{test_found}
 use Rattle.refutation.proofs.SplitLemmas.{fair-cut, left-boxed, right-boxed, halves-points, points-some}
 
 -- ---- atoms that no side names
@@ -190,10 +191,10 @@ unfolding Searches
 splits-few rule key [] terms boxes narrow fit h = omega (arith, weight-many key boxes narrow fit)
 splits-few rule key (node ∷ nodes) terms [] narrow fit h = absurd h
 splits-few rule key (node ∷ nodes) terms (box ∷ boxes) narrow fit h =
-    let on = some_and (decided key box node terms) (λ (r : Treated). Searches rule key nodes r.terms (r.boxes ++ boxes)) h.1 in
-    let shares = node-shares rule key box node terms on.0 narrow (All-head (HasRoom key) box boxes fit) h.0 on.1 in
-    let rest = splits-few rule key nodes on.0.terms (on.0.boxes ++ boxes) narrow (All-append (HasRoom key) on.0.boxes boxes shares.room (All-tail (HasRoom key) box boxes fit)) on.2 in
-    omega (arith, shares.weight, rest, weight_in-append key on.0.boxes boxes, length-append on.0.boxes boxes, inner_count-cons node nodes)
+    let on = Found-from (decided key box node terms) (λ (r : Treated). Searches rule key nodes r.terms (r.boxes ++ boxes)) h.1 in
+    let shares = node-shares rule key box node terms on.value narrow (All-head (HasRoom key) box boxes fit) h.0 on.is in
+    let rest = splits-few rule key nodes on.value.terms (on.value.boxes ++ boxes) narrow (All-append (HasRoom key) on.value.boxes boxes shares.room (All-tail (HasRoom key) box boxes fit)) on.holds in
+    omega (arith, shares.weight, rest, weight_in-append key on.value.boxes boxes, length-append on.value.boxes boxes, inner_count-cons node nodes)
 
 -- ---- the root of an open tree isn't empty
 

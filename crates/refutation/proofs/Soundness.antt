@@ -4,13 +4,13 @@ use Rattle.std.specs.Option.{option_map_or}
 use Rattle.std.proofs.lemmas.Bool.{and_parts}
 use Rattle.lin_model.specs.KeyAtom.{PlainKeyAtom}
 use Rattle.lin_model.specs.Key.{KeyHolds, IsKey}
+use Rattle.lin_model.specs.Lists.{chosen}
 use Rattle.refutation.specs.declared.leaf.LeafTerm.{LeafTerm}
 use Rattle.refutation.specs.declared.node.Node.{Node}
 use Rattle.refutation.specs.declared.node.Node.TheVariants.{Split, NeSplit, Combo, Fixed, Empty, Left}
 use Rattle.refutation.specs.Box.{PlainBox, root_box, IsInBox, left_half, right_half, on_side}
 use Rattle.refutation.specs.Leaf.{combo, fixed, empty, closes}
 use Rattle.refutation.specs.Reading.{Treated, treated, is_split, names_ne, Ending, refuted, fails_at, reading, Refutes, HasNoPoint}
-use Rattle.refutation.proofs.LookUps.{chosen}
 use Rattle.refutation.proofs.Points.{root_box-has, split-covers, sides-cover}
 use Rattle.refutation.proofs.ClosedBoxes.{AreNarrow, closes-none, IsKey-narrow}
 

@@ -1,8 +1,8 @@
--- A cut of a variable between its sides: the sides of both halves, that neither half is empty, and the points that they share.
-use Rattle.std.proofs.Common.{◌≡◌, ◌≢◌, ℕ, zero, suc, ◌+◌, ◌*◌, ◌<◌, ◌≤◌, ℤ, pos, ◌+ℤ◌, ◌-ℤ◌, ◌≤ℤ◌, ◌<ℤ◌, Bool, true, false, cond, Option, Some, None, is_some, List, length, get_or, unsigned_abs, ⊎_elim, refl, ap, sym, ◌∙◌, subst, arith, int_lt}
+-- A cut of a variable between its sides: the sides of both halves, that these are not empty, boxed and short, and the points that they share.
+use Rattle.std.proofs.Common.{◌≡◌, ◌≢◌, ℕ, zero, suc, ◌+◌, ◌*◌, ◌^◌, ◌<◌, ◌≤◌, ℤ, pos, ◌+ℤ◌, ◌-ℤ◌, ◌≤ℤ◌, ◌<ℤ◌, Bool, true, false, cond, Option, Some, None, IfSome, is_some, List, length, get_or, unsigned_abs, ⊎_elim, refl, ap, sym, ◌∙◌, subst, arith, int_lt}
 use Rattle.std.specs.Int.{int_min, int_max}
 use Rattle.std.specs.List.{range_with_len}
-use Rattle.std.proofs.lemmas.Bool.{cases_lt, cases_eq, both_ways, false_from_ne_true}
+use Rattle.std.proofs.lemmas.Bool.{cases_lt, cases_eq}
 use Rattle.std.proofs.lemmas.Int.{ints, clamps}
 use Rattle.std.proofs.lemmas.List.{get_or-set_same, get_or-set_other, get_or_past}
 use Rattle.std.proofs.Math.Nat.{mul-le-mul}
@@ -10,20 +10,14 @@ use Rattle.lin_model.specs.KeyAtom.{PlainKeyAtom}
 use Rattle.lin_model.specs.Key.{key_width}
 use Rattle.refutation.specs.Bounds.{PlainBounds, lower_of, upper_of, with_lower, with_upper, crosses, is_empty, tighter_lower, tighter_upper}
 use Rattle.refutation.specs.Box.{PlainBox}
-use Rattle.refutation.specs.Boxed.{IsBoxedIn}
+use Rattle.refutation.specs.Boxed.{IsBoxedIn, HasShortSides, IsCut}
+use Rattle.refutation.specs.Facts.{not_crossed}
+use Rattle.refutation.specs.Laws.{CutsLeaveProperHalves}
 use Rattle.refutation.specs.SearchTree.{number_between, points_over, IsFairSplit}
 use Rattle.refutation.proofs.Arithmetic.{int_lt-false}
-use Rattle.refutation.proofs.BoundsLemmas.{is_empty-true, is_empty-false}
+use Rattle.refutation.proofs.BoundsLemmas.{is_empty-false}
 
 -- ---- sides that are there
-
--- a cut between both sides of a variable, with room above it
-pub record IsCut (b : PlainBounds) (v : ℕ) (lo hi cut : ℤ) : Type 0 where
-  pub below : v < 64
-  pub lower : lower_of b v ≡ Some lo
-  pub upper : upper_of b v ≡ Some hi
-  pub from : lo ≤ℤ cut
-  pub to : cut <ℤ hi
 
 in_list : (xs : List (Option ℤ)) (v : ℕ) (n : ℤ) → get_or xs v None ≡ Some n → v < length xs
 in_list xs v n is = ⊎_elim (λ lt. lt) (λ le. let past = get_or_past xs v None le in absurd (cc)) (cases_lt v (length xs))
@@ -45,24 +39,21 @@ lower-other : (b : PlainBounds) (v w : ℕ) (cut : ℤ) → w ≢ v → lower_of
 lower-other b v w cut other = get_or-set_other b.lower v w (tighter_lower (lower_of b v) (Some (cut +ℤ pos 1))) None other
 
 -- what holds of the new side and of the old sides holds of all sides of a half
-pub each_upper : (b : PlainBounds) (v : ℕ) (lo hi cut : ℤ) (w : ℕ) (Q : Option ℤ → Type 0) → IsCut b v lo hi cut → (w ≡ v → Q (Some cut)) → Q (upper_of b w) → Q (upper_of (with_upper b v cut) w)
+each_upper : (b : PlainBounds) (v : ℕ) (lo hi cut : ℤ) (w : ℕ) (Q : Option ℤ → Type 0) → IsCut b v lo hi cut → (w ≡ v → Q (Some cut)) → Q (upper_of b w) → Q (upper_of (with_upper b v cut) w)
 each_upper b v lo hi cut w Q h f g =
     ⊎_elim (λ same. subst (λ u. Q (upper_of (with_upper b v cut) u)) (sym same) (subst Q (sym (upper-cut b v lo hi cut h)) (f same))) (λ other. subst Q (sym (upper-other b v w cut other)) g) (cases_eq w v)
 
-pub each_lower : (b : PlainBounds) (v : ℕ) (lo hi cut : ℤ) (w : ℕ) (Q : Option ℤ → Type 0) → IsCut b v lo hi cut → (w ≡ v → Q (Some (cut +ℤ pos 1))) → Q (lower_of b w) → Q (lower_of (with_lower b v (cut +ℤ pos 1)) w)
+each_lower : (b : PlainBounds) (v : ℕ) (lo hi cut : ℤ) (w : ℕ) (Q : Option ℤ → Type 0) → IsCut b v lo hi cut → (w ≡ v → Q (Some (cut +ℤ pos 1))) → Q (lower_of b w) → Q (lower_of (with_lower b v (cut +ℤ pos 1)) w)
 each_lower b v lo hi cut w Q h f g =
     ⊎_elim (λ same. subst (λ u. Q (lower_of (with_lower b v (cut +ℤ pos 1)) u)) (sym same) (subst Q (sym (lower-cut b v lo hi cut h)) (f same))) (λ other. subst Q (sym (lower-other b v w cut other)) g) (cases_eq w v)
 
 -- ---- emptiness
 
-pub not_crossed : (b : PlainBounds) (v : ℕ) → v < 64 → is_empty b ≡ false → crosses (lower_of b v) (upper_of b v) ≡ false
-not_crossed b v lt full = false_from_ne_true (crosses (lower_of b v) (upper_of b v)) (λ is. both_ways (is_empty b) full (is_empty-true b v lt is))
-
-pub left-not_empty : (b : PlainBounds) (v : ℕ) (lo hi cut : ℤ) → IsCut b v lo hi cut → is_empty b ≡ false → is_empty (with_upper b v cut) ≡ false
+left-not_empty : (b : PlainBounds) (v : ℕ) (lo hi cut : ℤ) → IsCut b v lo hi cut → is_empty b ≡ false → is_empty (with_upper b v cut) ≡ false
 left-not_empty b v lo hi cut h full =
     is_empty-false (with_upper b v cut) (λ w lt. each_upper b v lo hi cut w (λ o. crosses (lower_of b w) o ≡ false) h (λ same. ap (λ (o : Option ℤ). crosses o (Some cut)) (ap (lower_of b) same ∙ h.lower) ∙ int_lt-false cut lo h.from) (not_crossed b w lt full))
 
-pub right-not_empty : (b : PlainBounds) (v : ℕ) (lo hi cut : ℤ) → IsCut b v lo hi cut → is_empty b ≡ false → is_empty (with_lower b v (cut +ℤ pos 1)) ≡ false
+right-not_empty : (b : PlainBounds) (v : ℕ) (lo hi cut : ℤ) → IsCut b v lo hi cut → is_empty b ≡ false → is_empty (with_lower b v (cut +ℤ pos 1)) ≡ false
 right-not_empty b v lo hi cut h full =
     is_empty-false (with_lower b v (cut +ℤ pos 1)) (λ w lt. each_lower b v lo hi cut w (λ o. crosses o (upper_of b w) ≡ false) h (λ same. ap (λ (o : Option ℤ). crosses (Some (cut +ℤ pos 1)) o) (ap (upper_of b) same ∙ h.upper) ∙ int_lt-false hi (cut +ℤ pos 1) (omega (arith, ints, h.to))) (not_crossed b w lt full))
 
@@ -72,6 +63,28 @@ left-boxed key b v lo hi cut h boxed = λ w lt. record { lower = (boxed w lt).lo
 
 pub right-boxed : (key : List PlainKeyAtom) (b : PlainBounds) (v : ℕ) (lo hi cut : ℤ) → IsCut b v lo hi cut → IsBoxedIn key b → IsBoxedIn key (with_lower b v (cut +ℤ pos 1))
 right-boxed key b v lo hi cut h boxed = λ w lt. record { lower = each_lower b v lo hi cut w (λ o. is_some o ≡ true) h (λ _. refl) (boxed w lt).lower; upper = (boxed w lt).upper }
+
+-- ---- what both halves keep
+
+short_at : (o : Option ℤ) (n : ℤ) → o ≡ Some n → IfSome o (λ m. unsigned_abs m ≤ 2 ^ 32) → unsigned_abs n ≤ 2 ^ 32
+short_at o n is h = subst (λ (p : Option ℤ). IfSome p (λ m. unsigned_abs m ≤ 2 ^ 32)) is h
+
+cut-short : (b : PlainBounds) (v : ℕ) (lo hi cut : ℤ) → IsCut b v lo hi cut → HasShortSides b → (unsigned_abs cut ≤ 2 ^ 32) × (unsigned_abs (cut +ℤ pos 1) ≤ 2 ^ 32)
+cut-short b v lo hi cut h short =
+    let low = short_at (lower_of b v) lo h.lower (short.lower v) in
+    let high = short_at (upper_of b v) hi h.upper (short.upper v) in
+    (omega (arith, ints, h.from, h.to), omega (arith, ints, h.from, h.to))
+
+pub halves-proper : CutsLeaveProperHalves
+halves-proper b v lo hi cut h = record {
+  left_full = left-not_empty b v lo hi cut h;
+  right_full = right-not_empty b v lo hi cut h;
+  left_boxed = λ key. left-boxed key b v lo hi cut h;
+  right_boxed = λ key. right-boxed key b v lo hi cut h;
+  left_short = λ short. record { lower = short.lower; upper = λ w. each_upper b v lo hi cut w (λ o. IfSome o (λ n. unsigned_abs n ≤ 2 ^ 32)) h (λ _. (cut-short b v lo hi cut h short).0) (short.upper w) };
+  right_short = λ short. record { lower = λ w. each_lower b v lo hi cut w (λ o. IfSome o (λ n. unsigned_abs n ≤ 2 ^ 32)) h (λ _. (cut-short b v lo hi cut h short).1) (short.lower w); upper = short.upper };
+  short_cut = λ short. (cut-short b v lo hi cut h short).0;
+}
 
 -- ---- points
 

@@ -10,10 +10,10 @@ use Rattle.std.proofs.Math.ListN.{drop_of_length-le}
 use Rattle.std.proofs.Math.Nat.{mul-le-mul, mul-le-mul_right}
 use Rattle.lin_model.specs.declared.form.FormTerm.{FormTerm}
 use Rattle.lin_model.specs.KeyAtom.{IsCanonicalForm}
+use Rattle.lin_model.specs.Integers.{distrib_left}
 use Rattle.refutation.specs.Bounds.{PlainBounds, lower_of, upper_of, variables, add_known, scaled_side, least}
 use Rattle.refutation.specs.Leaf.{coefficient_of, Multiple}
 use Rattle.refutation.specs.Sum.{PlainSum, coef_at, dense_form, AddsMultiple, IsSum}
-use Rattle.refutation.proofs.Arithmetic.{distrib_left}
 use Rattle.refutation.proofs.BoundsLemmas.{get_or-same, least_step, least_missing, least_end}
 
 -- ---- the sum of nothing

@@ -7,9 +7,9 @@ use Rattle.std.proofs.lemmas.Bool.Decides.{nat_tests}
 use Rattle.std.proofs.lemmas.List.Elements.{All-head, All-tail}
 use Rattle.lin_model.specs.declared.form.FormTerm.{FormTerm}
 use Rattle.lin_model.specs.Form.{value_at, form_value}
+use Rattle.lin_model.specs.Integers.{distrib_right, distrib_left, times_assoc, scale_up, scale_down}
 use Rattle.refutation.specs.Bounds.{PlainBounds, lower_of, upper_of, variables, add_known, scaled_side, least, greatest, IsWithin}
 use Rattle.refutation.specs.Leaf.{coefficient_of, Multiple, summed_coefficient, summed_form}
-use Rattle.refutation.proofs.Arithmetic.{distrib_right, distrib_left, times_assoc, scale_up, scale_down}
 
 -- ---- the least and the greatest value
 

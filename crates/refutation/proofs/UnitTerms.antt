@@ -1,5 +1,5 @@
--- What closes a box at a glance, by tests that compute: the unit terms of atoms and sides that are there, one by one and two by two.
-use Rattle.std.proofs.Common.{◌≡◌, ◌⊎◌, inl, inr, ⊎_elim, ℕ, zero, suc, ◌<◌, ◌≤◌, ℤ, pos, negsuc, neg_ℤ, Bool, true, false, not, ◌&&◌, ◌||◌, Option, None, List, [], ◌∷◌, length, get_or, nat_le, ap, sym, subst, arith}
+-- What closes a box at a glance: the unit terms of atoms and sides that are there, one by one and two by two, by tests that compute; and that atoms of the key alone do where there are no sides.
+use Rattle.std.proofs.Common.{◌≡◌, ◌⊎◌, inl, inr, ⊎_elim, ℕ, zero, suc, ◌<◌, ◌≤◌, ℤ, pos, negsuc, neg_ℤ, Bool, true, false, not, ◌&&◌, ◌||◌, Option, None, List, [], ◌∷◌, length, get_or, slice_get, nat_le, ap, sym, subst, ◌∙◌, arith}
 use Rattle.std.specs.Option.{option_map_or, option_and_then}
 use Rattle.std.specs.Ordering.{int_eq}
 use Rattle.std.proofs.lemmas.Bool.{and_parts, and_right, or_cases, not-true, both_ways, cases_lt, cases_eq}
@@ -13,23 +13,24 @@ use Rattle.refutation.specs.declared.side.Side.{Side}
 use Rattle.refutation.specs.Bounds.{PlainBounds, is_empty, least, greatest}
 use Rattle.refutation.specs.Box.{PlainBox, side_atom}
 use Rattle.refutation.specs.Leaf.{PlainLeaf, combo, fixed, empty, closes, named, weighted, is_positive_sum, is_unit, combo_closes, fixed_closes, fails_fixed, is_by_one, is_sum_of_two, ClosedByOneAtom, ClosedBySumOfTwo}
+use Rattle.refutation.specs.Laws.{NoAtomOfTheKeyCloses, ClosedByAtomsOfTheKey}
 use Rattle.refutation.proofs.LeafLemmas.{multiples_of-none}
 
 -- ---- what names nothing closes nothing
 
-pub combo_closes-unnamed : (key : List PlainKeyAtom) (box : PlainBox) (terms : List LeafTerm) (i : ℕ) (d : LeafTerm) → i < length terms → named key box.sides (get_or terms i d).on ≡ None → combo_closes key box terms ≡ false
+combo_closes-unnamed : (key : List PlainKeyAtom) (box : PlainBox) (terms : List LeafTerm) (i : ℕ) (d : LeafTerm) → i < length terms → named key box.sides (get_or terms i d).on ≡ None → combo_closes key box terms ≡ false
 unfolding combo_closes
 combo_closes-unnamed key box terms i d lt none =
     let no_multiple = ap (option_and_then (λ a. weighted a (get_or terms i d).factor)) none in
     let no_sum = ap (λ o. option_map_or (is_positive_sum box.bounds) o false) (multiples_of-none key box.sides terms i d lt no_multiple) in
     and_right (nat_le 1 (length terms)) _ (and_right (nat_le (length terms) 8) _ no_sum)
 
-pub fixed_closes-past : (key : List PlainKeyAtom) (b : PlainBounds) (i : ℕ) → length key ≤ i → fixed_closes key b i ≡ false
+fixed_closes-past : (key : List PlainKeyAtom) (b : PlainBounds) (i : ℕ) → length key ≤ i → fixed_closes key b i ≡ false
 unfolding fixed_closes
 fixed_closes-past key b i le =
     ap (λ (o : Option PlainKeyAtom). option_map_or (λ a. fails_fixed a (least a.form b) (greatest a.form b)) o false) (slice_get_past key i le)
 
-pub unit_factor : (f : ℤ) → (int_eq f (pos 1) || int_eq f (neg_ℤ (pos 1))) ≡ true → (f ≡ pos 1) ⊎ (f ≡ negsuc 0)
+unit_factor : (f : ℤ) → (int_eq f (pos 1) || int_eq f (neg_ℤ (pos 1))) ≡ true → (f ≡ pos 1) ⊎ (f ≡ negsuc 0)
 unit_factor f h =
     ⊎_elim (λ one. inl ((Decides-int_eq f (pos 1)).0 one)) (λ minus. inr ((Decides-int_eq f (neg_ℤ (pos 1))).0 minus)) (or_cases (int_eq f (pos 1)) (int_eq f (neg_ℤ (pos 1))) h)
 
@@ -77,7 +78,7 @@ abbrev pub no_fixed_closes : List PlainKeyAtom → PlainBox → Bool
 no_fixed_closes key box = each_below (λ i. not (fixed_closes key box.bounds i)) (length key)
 
 -- what closes no box by a unit or by an atom with one value closes none by one atom
-pub not_by_one-from_each : (key : List PlainKeyAtom) (box : PlainBox) → is_empty box.bounds ≡ false → ((t : LeafTerm) → is_unit t ≡ true → combo_closes key box (t ∷ []) ≡ false) → ((i : ℕ) → i < length key → fixed_closes key box.bounds i ≡ false) → ¬ ClosedByOneAtom key box
+not_by_one-from_each : (key : List PlainKeyAtom) (box : PlainBox) → is_empty box.bounds ≡ false → ((t : LeafTerm) → is_unit t ≡ true → combo_closes key box (t ∷ []) ≡ false) → ((i : ℕ) → i < length key → fixed_closes key box.bounds i ≡ false) → ¬ ClosedByOneAtom key box
 not_by_one-from_each key box full no_term no_fixed closed = none closed.0 closed.1 closed.2
   where
     none : (leaf : PlainLeaf) → is_by_one leaf ≡ true → closes key box leaf ≡ true → ⊥
@@ -96,6 +97,21 @@ not_by_one key box full units values =
     no_term on f unit =
         let term : LeafTerm = record { on = on; factor = f } in
         ⊎_elim (λ passes. not-true (combo_closes key box (term ∷ [])) passes) (λ unnamed. combo_closes-unnamed key box (term ∷ []) 0 term (omega arith) unnamed) (each_unit-at (λ t. not (combo_closes key box (t ∷ []))) key box.sides on f units unit)
+
+-- ---- one atom of the key
+
+no_side : (key : List PlainKeyAtom) (sides : List Side) (k : ℕ) → sides ≡ [] → named key sides (OnSide k) ≡ None
+no_side key sides k none = ap (λ (ss : List Side). option_and_then (side_atom key) (slice_get ss k)) none
+
+-- the term closes nothing, whatever it names
+unit_closes_nothing : (key : List PlainKeyAtom) (box : PlainBox) (o : On) (f : ℤ) → box.sides ≡ [] → NoAtomOfTheKeyCloses key box → is_unit (record { on = o; factor = f }) ≡ true → combo_closes key box (record { on = o; factor = f } ∷ []) ≡ false
+unit_closes_nothing key box (OnAtom i) f none h unit =
+    ⊎_elim (λ lt. ⊎_elim (λ same. ap (λ (n : ℤ). combo_closes key box (record { on = OnAtom i; factor = n } ∷ [])) same ∙ h.positive i lt) (λ same. ap (λ (n : ℤ). combo_closes key box (record { on = OnAtom i; factor = n } ∷ [])) same ∙ h.negative i lt) (unit_factor f unit)) (λ le. combo_closes-unnamed key box (record { on = OnAtom i; factor = f } ∷ []) 0 (record { on = OnAtom i; factor = f }) (omega arith) (slice_get_past key i le)) (cases_lt i (length key))
+unit_closes_nothing key box (OnSide k) f none h unit =
+    combo_closes-unnamed key box (record { on = OnSide k; factor = f } ∷ []) 0 (record { on = OnSide k; factor = f }) (omega arith) (no_side key box.sides k none)
+
+pub by_atoms_of_key : ClosedByAtomsOfTheKey
+by_atoms_of_key key box none full h = not_by_one-from_each key box full (λ t unit. unit_closes_nothing key box t.on t.factor none h unit) h.no_fixed
 
 -- ---- the sum of two
 

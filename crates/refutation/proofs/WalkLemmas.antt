@@ -2,10 +2,10 @@
 use Rattle.std.proofs.Common.{◌≡◌, ℕ, zero, suc, ◌-◌, ℤ, pos, ◌+ℤ◌, Bool, true, false, Option, Some, None, List, [], ◌∷◌, ◌++◌, length, get_or, set, take, reverse, refl, ap, sym, ◌∙◌, arith}
 use Rattle.std.proofs.Math.Seq.{take-append_seam}
 use Rattle.std.proofs.lemmas.List.{reverse-append, length-append}
+use Rattle.lin_model.specs.KeyAtom.{PlainKeyAtom}
 use Rattle.refutation.specs.declared.side.Side.{Side}
 use Rattle.refutation.specs.declared.turn.Turn.{Turn}
 use Rattle.refutation.specs.declared.turn.Turn.TheVariants.{SplitLeft, SplitRight, NeLeft}
-use Rattle.lin_model.specs.KeyAtom.{PlainKeyAtom}
 use Rattle.refutation.specs.Bounds.{PlainBounds, key_bounds, lower_of, upper_of, tighter_lower, tighter_upper, with_lower, with_upper}
 use Rattle.refutation.specs.Box.{PlainBox, root_box, left_half, right_half, on_side}
 use Rattle.refutation.specs.Walk.{parent, other_half, MovesOn, waiting, undecided, without_last_side}

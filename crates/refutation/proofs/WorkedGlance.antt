@@ -7,12 +7,12 @@ use Rattle.lin_model.specs.KeyAtom.{PlainKeyAtom, KeyAtomHolds}
 use Rattle.lin_model.specs.Key.{KeyHolds}
 use Rattle.lin_model.specs.Test.{passes}
 use Rattle.lin_model.specs.Bounded.{variable}
+use Rattle.lin_model.specs.Lists.{All-at}
 use Rattle.refutation.specs.Bounds.{variables, key_bounds, is_empty, least, greatest}
 use Rattle.refutation.specs.Box.{PlainBox, root_box, on_side}
 use Rattle.refutation.specs.Leaf.{combo, fixed, empty, combo_closes, fixed_closes, summed_form, is_positive_sum, ClosedByOneAtom, ClosedBySumOfTwo}
 use Rattle.refutation.specs.SearchOrder.{lowest_corner}
 use Rattle.refutation.specs.SearchTree.{halving, whole_order, IsUndecided}
-use Rattle.refutation.proofs.LookUps.{All-at}
 use Rattle.refutation.proofs.UnitTerms.{no_unit_closes, no_fixed_closes, no_two_close, not_by_one, not_by_two}
 use Rattle.refutation.proofs.Worked.{sum_of, difference, atom, on_atom, on_side as side_term, over, crossed, pinned, one_value}
 use Rattle.refutation.proofs.WorkedCuts.{not_zero}

@@ -1,11 +1,15 @@
 -- What refutations and bounds keep.
-use Rattle.std.specs.Prelude.{ℕ, ◌<◌, List}
+use Rattle.std.specs.Prelude.{◌≡◌, ℕ, ◌^◌, ◌<◌, ◌≤◌, ℤ, pos, negsuc, ◌+ℤ◌, false, List, [], ◌∷◌, length, unsigned_abs}
 use Rattle.lin_model.specs.KeyAtom.{PlainKeyAtom}
-use Rattle.lin_model.specs.Key.{IsKey}
+use Rattle.lin_model.specs.Key.{IsKey, KeyHolds}
 use Rattle.lin_model.specs.Bounded.{IsBounded}
 use Rattle.refutation.specs.declared.leaf.LeafTerm.{LeafTerm}
+use Rattle.refutation.specs.declared.leaf.On.TheVariants.{Atom as OnAtom}
 use Rattle.refutation.specs.declared.node.Node.{Node}
-use Rattle.refutation.specs.Boxed.{IsBoxed}
+use Rattle.refutation.specs.Bounds.{PlainBounds, with_lower, with_upper, is_empty, key_bounds}
+use Rattle.refutation.specs.Box.{PlainBox, root_box}
+use Rattle.refutation.specs.Boxed.{IsBoxedIn, IsBoxed, HasShortSides, IsCut}
+use Rattle.refutation.specs.Leaf.{PlainLeaf, Closes, combo_closes, fixed_closes, ClosedByOneAtom}
 use Rattle.refutation.specs.Reading.{Refutes, HasNoPoint}
 use Rattle.refutation.specs.SearchTree.{Rule, IsOpenTree, room}
 
@@ -20,3 +24,35 @@ BoundedIsBoxed = (key : List PlainKeyAtom) → IsKey key → IsBounded key → I
 -- an open tree of a boxed key has fewer splits than the key has room
 abbrev pub OpenTreesAreBelowRoom : Type 0
 OpenTreesAreBelowRoom = (rule : Rule) (key : List PlainKeyAtom) (splits : ℕ) (nodes : List Node) (terms : List LeafTerm) → IsKey key → IsBoxed key → IsOpenTree rule key splits nodes terms → splits < room key
+
+-- the halves of a cut are as the whole: not empty, boxed and short; and so is the cut short
+pub record AreProperHalves (b : PlainBounds) (v : ℕ) (cut : ℤ) : Type 0 where
+  pub left_full : is_empty b ≡ false → is_empty (with_upper b v cut) ≡ false
+  pub right_full : is_empty b ≡ false → is_empty (with_lower b v (cut +ℤ pos 1)) ≡ false
+  pub left_boxed : (key : List PlainKeyAtom) → IsBoxedIn key b → IsBoxedIn key (with_upper b v cut)
+  pub right_boxed : (key : List PlainKeyAtom) → IsBoxedIn key b → IsBoxedIn key (with_lower b v (cut +ℤ pos 1))
+  pub left_short : HasShortSides b → HasShortSides (with_upper b v cut)
+  pub right_short : HasShortSides b → HasShortSides (with_lower b v (cut +ℤ pos 1))
+  pub short_cut : HasShortSides b → unsigned_abs cut ≤ 2 ^ 32
+
+-- a cut between the sides of a variable leaves such halves
+abbrev pub CutsLeaveProperHalves : Type 0
+CutsLeaveProperHalves = (b : PlainBounds) (v : ℕ) (lo hi cut : ℤ) → IsCut b v lo hi cut → AreProperHalves b v cut
+
+-- no side of a key's bounds is beyond 2^32 in size
+abbrev pub KeyBoundsAreShort : Type 0
+KeyBoundsAreShort = (key : List PlainKeyAtom) → HasShortSides (key_bounds key)
+
+-- no leaf closes the root box of a key that a point satisfies
+abbrev pub RootsOfModelsStayOpen : Type 0
+RootsOfModelsStayOpen = (key : List PlainKeyAtom) (leaf : PlainLeaf) (point : List ℤ) → IsKey key → KeyHolds key point → ¬ Closes key (root_box key) leaf
+
+-- no atom of the key closes the box, by the factor 1, by -1, or because its form has one value
+pub record NoAtomOfTheKeyCloses (key : List PlainKeyAtom) (box : PlainBox) : Type 0 where
+  pub positive : (i : ℕ) → i < length key → combo_closes key box (record { on = OnAtom i; factor = pos 1 } ∷ []) ≡ false
+  pub negative : (i : ℕ) → i < length key → combo_closes key box (record { on = OnAtom i; factor = negsuc 0 } ∷ []) ≡ false
+  pub no_fixed : (i : ℕ) → i < length key → fixed_closes key box.bounds i ≡ false
+
+-- so one atom doesn't close it at all, if it isn't empty and has no sides
+abbrev pub ClosedByAtomsOfTheKey : Type 0
+ClosedByAtomsOfTheKey = (key : List PlainKeyAtom) (box : PlainBox) → box.sides ≡ [] → is_empty box.bounds ≡ false → NoAtomOfTheKeyCloses key box → ¬ ClosedByOneAtom key box

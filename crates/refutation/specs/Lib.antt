@@ -11,3 +11,4 @@ pub mod SearchOrder
 pub mod Halving
 pub mod SearchTree
 pub mod Laws
+pub mod Facts

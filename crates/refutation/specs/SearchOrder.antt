@@ -7,12 +7,12 @@ use Rattle.lin_model.specs.Form.{form_value}
 use Rattle.lin_model.specs.KeyAtom.{PlainKeyAtom}
 use Rattle.lin_model.specs.Key.{key_width}
 use Rattle.lin_model.specs.Test.{passes}
+use Rattle.lin_model.specs.Quotients.{floor_div}
 use Rattle.refutation.specs.declared.node.Node.{Node}
 use Rattle.refutation.specs.declared.node.Node.TheVariants.{Split, NeSplit}
 use Rattle.refutation.specs.Bounds.{PlainBounds, lower_of, upper_of}
 use Rattle.refutation.specs.Box.{PlainBox, is_ne}
 use Rattle.refutation.specs.Cut.{PlainCut, cut}
-use Rattle.lin_model.specs.Quotients.{floor_div}
 
 -- the lower side of a variable; the search asks only where it is there
 abbrev pub lower_or_zero : PlainBounds → ℕ → ℤ

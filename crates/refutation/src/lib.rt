@@ -22,7 +22,11 @@ pub use bounds::Bounds;
 pub use checker::refutes;
 pub use closing::closes;
 pub use fault::TreeFault;
-pub use laws::{bounded_keys_are_boxed, open_trees_are_below_room, refuted_keys_have_no_point};
+pub use laws::{
+    bounded_keys_are_boxed, closed_by_atoms_of_the_key, cuts_leave_proper_halves,
+    key_bounds_are_short, open_trees_are_below_room, refuted_keys_have_no_point,
+    roots_of_models_stay_open,
+};
 pub use leaf::{Leaf, LeafTerm, On};
 pub use node::Node;
 pub use side::Side;

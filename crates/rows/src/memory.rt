@@ -1,4 +1,4 @@
-//! Each call that may run out of memory, once with ample memory.
+//! Calls that may run out of memory, once with ample memory.
 ghost use Rattle.std.specs.Prelude.{◌≤◌, ◌^◌, unsigned_abs};
 
 use crate::fixtures::{ANSWERS, SESSION, source_of};

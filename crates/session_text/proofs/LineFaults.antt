@@ -3,11 +3,11 @@ use Rattle.std.proofs.Common.{◌≡◌, ℕ, ◌+◌, ◌<◌, ◌≤◌, Bool,
 use Rattle.std.specs.Prelude.{bytes_eq, MatchOption, ◌==◌}
 use Rattle.std.proofs.lemmas.Bool.{false≢true}
 use Rattle.std.proofs.lemmas.Bool.Decides.{eqb_tells}
+use Rattle.lin_model.specs.Lists.{parted}
 use Rattle.lin_text.specs.declared.fault.SessionKind.{SessionKind}
 use Rattle.lin_text.specs.declared.fault.SessionKind.TheVariants as kinds
 use Rattle.lin_text.specs.Pieces.{Piece, var, word, name, number, plus, minus, times, compare, bad, line_end, PlainToken, PlainLine, pieces, AreLines}
-use Rattle.lin_text.proofs.Positions.{tokens-later}
-use Rattle.lin_text.proofs.ListLemmas.{parted}
+use Rattle.lin_text.specs.LineLaws.{LinesAreInOrder}
 use Rattle.session_text.specs.declared.class.Class.TheVariants.{Executor, Query, End, Other}
 use Rattle.session_text.specs.Words.{executor_word, query_word, end_word}
 use Rattle.session_text.specs.Classes.{class_of, refusal_kind}
@@ -114,7 +114,7 @@ own_stands seen line own k p s =
     subst (λ (o : Option (List PlainLine)). IsOneTooMany seen (pieces s.front) s.token.piece k ⊎ MatchOption o (CantCome seen.part (pieces s.front) s.token.piece k) (λ above. IsOfQuery above (pieces s.front) s.token.piece (pieces s.after) k)) own s.stands
 
 -- A token of a line of the session's own at which a fault stands, behind tokens without one: it is the first from there on.
-module _ (bytes : List ℕ) (seen : Seen) (at : ℕ) (line : PlainLine) (lines : List PlainLine) (are : AreLines false bytes at (line ∷ lines)) (own : IsOwn seen line.tokens) (front more : List PlainToken) (t : PlainToken) (split : line.tokens ≡ front ++ t ∷ more) (clean : (before mid : List PlainToken) (u : PlainToken) → front ≡ before ++ u ∷ mid → (k : SessionKind) → OwnStands seen (pieces before) u.piece k → ⊥) (kind : SessionKind) (is : Refused t.piece (seen.executors + count_of executor_word (pieces front)) (seen.queries + count_of query_word (pieces front)) kind) (there : OwnStands seen (pieces front) t.piece kind) where
+module _ (in_order : LinesAreInOrder) (bytes : List ℕ) (seen : Seen) (at : ℕ) (line : PlainLine) (lines : List PlainLine) (are : AreLines false bytes at (line ∷ lines)) (own : IsOwn seen line.tokens) (front more : List PlainToken) (t : PlainToken) (split : line.tokens ≡ front ++ t ∷ more) (clean : (before mid : List PlainToken) (u : PlainToken) → front ≡ before ++ u ∷ mid → (k : SessionKind) → OwnStands seen (pieces before) u.piece k → ⊥) (kind : SessionKind) (is : Refused t.piece (seen.executors + count_of executor_word (pieces front)) (seen.queries + count_of query_word (pieces front)) kind) (there : OwnStands seen (pieces front) t.piece kind) where
   stands : StandsInLine seen line kind t.from
   stands = record {
     front = front;
@@ -130,7 +130,7 @@ module _ (bytes : List ℕ) (seen : Seen) (at : ℕ) (line : PlainLine) (lines :
       elim (parted front more t s.front s.after s.token (sym split ∙ s.in_line)) [
         | inl later ↦
             let there : line.tokens ≡ front ++ t ∷ (later.0 ++ s.token ∷ s.after) = split ∙ ap (λ (us : List PlainToken). front ++ t ∷ us) later.2 in
-            inl (omega (arith, tokens-later false bytes line.start line.tokens front later.0 s.after t s.token are.2 there, s.place))
+            inl (omega (arith, (in_order false bytes).token_later line.start line.tokens front later.0 s.after t s.token are.2 there, s.place))
         | inr other ↦ elim other [
           | inl same ↦
               inr (
@@ -142,4 +142,4 @@ module _ (bytes : List ℕ) (seen : Seen) (at : ℕ) (line : PlainLine) (lines :
       ]
 
   pub refused_at : IsFirst (StandsIn bytes seen (line ∷ lines)) kind t.from
-  refused_at = first_here bytes seen at line lines are kind t.from stands least
+  refused_at = first_here in_order bytes seen at line lines are kind t.from stands least

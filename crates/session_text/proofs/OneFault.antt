@@ -1,10 +1,10 @@
 -- A text has at most one first fault.
 use Rattle.std.proofs.Common.{◌≡◌, ℕ, cond, nat_eq, List, sym, refl, ap, subst, ◌∙◌, arith, inl, inr}
+use Rattle.std.specs.Prelude.{false}
 use Rattle.lin_text.specs.declared.fault.SessionKind.{SessionKind}
 use Rattle.lin_text.specs.declared.fault.SessionKind.TheVariants as kinds
 use Rattle.lin_text.specs.Pieces.{PlainLine}
-use Rattle.lin_text.proofs.UniqueTokens.{AreLines-once}
-use Rattle.std.specs.Prelude.{false}
+use Rattle.lin_text.specs.LineLaws.{LinesAreInOrder}
 use Rattle.session_text.specs.Sessions.{body_of}
 use Rattle.session_text.specs.Faults.{StandsAt, IsFirst, rank}
 use Rattle.session_text.specs.Laws.{OneFirstFault}
@@ -43,7 +43,7 @@ one_first F k j a b f g =
       | inr here ↦ elim (g.least k a f.stands) [ inl gt ↦ absurd (omega (arith, here.0, gt)) | inr same ↦ (same_rank k j (omega (arith, here.1, same.1)), here.0) ]
     ]
 
-pub one_fault : OneFirstFault
-one_fault bytes k j a b f g =
+pub one_fault : LinesAreInOrder → OneFirstFault
+one_fault in_order bytes k j a b f g =
     one_first (StandsAt bytes f.lines) k j a b f.first
-    (subst (λ (ls : List PlainLine). IsFirst (StandsAt bytes ls) j b) (AreLines-once false bytes (body_of bytes) g.lines f.lines g.are f.are) g.first)
+    (subst (λ (ls : List PlainLine). IsFirst (StandsAt bytes ls) j b) ((in_order false bytes).lines_once (body_of bytes) g.lines f.lines g.are f.are) g.first)

@@ -12,19 +12,14 @@ use Rattle.lin_text.specs.Lines.{line_from, line_below}
 use Rattle.lin_text.specs.Pieces.{Piece, var, word, PlainToken, PlainLine, pieces, AreLines}
 use Rattle.lin_text.specs.Faults.{Stands, StandsAt as LinesFault, rank as text_rank}
 use Rattle.lin_text.specs.Queries.{begins_word, is_of_query, query_lines, start_of, Spells}
-use Rattle.lin_text.proofs.LineLemmas.{line_from-end}
-use Rattle.lin_text.proofs.Places.{word-begins_no_line}
-use Rattle.lin_text.proofs.UniqueTokens.{AreLines-once}
-use Rattle.lin_text.proofs.NoFault.{Spell-no_fault}
+use Rattle.lin_text.specs.Laws.{WordsStandInNoLine}
+use Rattle.lin_text.specs.Facts.{line_from-end}
 use Rattle.session_text.specs.Words.{executor_word, query_word}
 use Rattle.session_text.specs.Faults.{Part, executor, query, Seen, is_the_word, count_of, first_word, part_of_word, seen_below, query_above, IsOneTooMany, CantCome, IsOfQuery, StandsInLine, StandsIn, IsFirst}
 use Rattle.session_text.specs.Reading.{HasFaultFrom}
+use Rattle.session_text.specs.Lawful.{TextsAreLawful}
 use Rattle.session_text.proofs.TokenLemmas.{line_from-again}
 use Rattle.session_text.proofs.FirstFaults.{IsFirst-map, Leads}
-
--- a reserved word but `var` stands in no line of a query
-pub word_stands : (above : List PlainLine) (front after : List Piece) (w : List ℕ) → Stands above front (word w) after texts.Syntax
-word_stands above front after w = word-begins_no_line front w
 
 pub word_first : (above : List PlainLine) (front after : List Piece) (w : List ℕ) (k : TextKind) → Stands above front (word w) after k → text_rank k ≤ 4 → k ≡ texts.Syntax
 word_first above front after w texts.TooManyVars s le = absurd (let no_var : word w ≡ var = s.1 in cc)
@@ -54,23 +49,8 @@ count_none w (t ∷ ts) h =
     let more : count_of w (pieces ts) ≡ 0 = count_none w ts (λ front after u e. h (t ∷ front) after u (ap (λ (us : List PlainToken). t ∷ us) e)) in
     sum_by-cons (λ (p : Piece). cond (is_the_word w p) 1 0) t.piece (pieces ts) ∙ ap (λ (b : Bool). cond b 1 0 + count_of w (pieces ts)) here ∙ (let sum : 0 + count_of w (pieces ts) ≡ 0 = omega (arith, more) in sum)
 
-no_words : (above : List PlainLine) (line : PlainLine) → IsCleanLine above line → (w : List ℕ) → count_of w (pieces line.tokens) ≡ 0
-no_words above line clean w =
-    count_none w line.tokens (λ front after t e x is. clean front after t e texts.Syntax (subst (λ (p : Piece). Stands above (pieces front) p (pieces after) texts.Syntax) (sym is) (word_stands above (pieces front) (pieces after) x)))
-
 abbrev pub in_query : List PlainLine → ℕ → ℕ → Seen
 in_query above e n = record { part = query above; executors = e; queries = n }
-
-seen_below-query : (above : List PlainLine) (e n : ℕ) (line : PlainLine) → begins_word (pieces line.tokens) ≡ false → IsCleanLine above line → seen_below (in_query above e n) line ≡ in_query (above ++ line ∷ []) e n
-seen_below-query above e n line own clean =
-    let c : ℕ = count_of executor_word (pieces line.tokens) in
-    let d : ℕ = count_of query_word (pieces line.tokens) in
-    let none : c ≡ 0 = no_words above line clean executor_word in
-    let none' : d ≡ 0 = no_words above line clean query_word in
-    let first : seen_below (in_query above e n) line ≡ in_query (above ++ line ∷ []) (e + c) (n + d) = ap (λ (b : Bool). record { part = cond b (part_of_word (first_word (pieces line.tokens))) (query (above ++ line ∷ [])); executors = e + c; queries = n + d }) own in
-    let second : in_query (above ++ line ∷ []) (e + c) (n + d) ≡ in_query (above ++ line ∷ []) e (n + d) = ap (λ (m : ℕ). in_query (above ++ line ∷ []) m (n + d)) (omega (arith, none)) in
-    let third : in_query (above ++ line ∷ []) e (n + d) ≡ in_query (above ++ line ∷ []) e n = ap (λ (m : ℕ). in_query (above ++ line ∷ []) e m) (omega (arith, none')) in
-    first ∙ second ∙ third
 
 -- what stands at a token of a line of the query
 pub query_stands : (above : List PlainLine) (e n : ℕ) (line : PlainLine) → begins_word (pieces line.tokens) ≡ false → (k : SessionKind) (p : ℕ) (s : StandsInLine (in_query above e n) line k p) → IsOneTooMany (in_query above e n) (pieces s.front) s.token.piece k ⊎ IsOfQuery above (pieces s.front) s.token.piece (pieces s.after) k
@@ -81,39 +61,60 @@ pub stands_query : (above : List PlainLine) (e n : ℕ) (line : PlainLine) → b
 stands_query above e n line own k front q more s =
     subst (λ (b : Bool). IsOneTooMany (in_query above e n) front q k ⊎ MatchOption (cond b None (Some above)) (CantCome (query above) front q k) (λ above. IsOfQuery above front q more k)) (sym own) s
 
-query_line-clean : (above : List PlainLine) (e n : ℕ) (line : PlainLine) → begins_word (pieces line.tokens) ≡ false → IsCleanLine above line → (k : SessionKind) (p : ℕ) → StandsInLine (in_query above e n) line k p → ⊥
-query_line-clean above e n line own clean k p s =
-    elim (query_stands above e n line own k p s) [
-      | inl many ↦ elim many [
-        | inl x ↦ a_word executor_word x.1
-        | inr x ↦ a_word query_word x.1
-      ]
-      | inr of_query ↦ clean s.front s.after s.token s.in_line of_query.0 of_query.2
-    ]
-  where
-    a_word : (w : List ℕ) → s.token.piece ≡ word w → ⊥
-    a_word w is = clean s.front s.after s.token s.in_line texts.Syntax (subst (λ (q : Piece). Stands above (pieces s.front) q (pieces s.after) texts.Syntax) (sym is) (word_stands above (pieces s.front) (pieces s.after) w))
-
 abbrev pub AreCleanLines : List PlainLine → List PlainLine → Type 0
 AreCleanLines above [] = Unit {0}
 AreCleanLines above (line ∷ lines) = (begins_word (pieces line.tokens) ≡ false) × IsCleanLine above line × AreCleanLines (above ++ line ∷ []) lines
 
--- behind clean lines of a query the same faults stand
-pub clean_prefix : (bytes : List ℕ) (above lines rest : List PlainLine) (e n : ℕ) → AreCleanLines above lines → (k : SessionKind) (p : ℕ) → (StandsIn bytes (in_query above e n) (lines ++ rest) k p → StandsIn bytes (in_query (above ++ lines) e n) rest k p) × (StandsIn bytes (in_query (above ++ lines) e n) rest k p → StandsIn bytes (in_query above e n) (lines ++ rest) k p)
-clean_prefix bytes above [] rest e n clean k p = (
-  λ s. subst (λ (ls : List PlainLine). StandsIn bytes (in_query ls e n) rest k p) (sym (append-nil above)) s,
-  λ s. subst (λ (ls : List PlainLine). StandsIn bytes (in_query ls e n) rest k p) (append-nil above) s,
-)
-clean_prefix bytes above (line ∷ lines) rest e n clean k p =
-    let more = clean_prefix bytes (above ++ line ∷ []) lines rest e n clean.2 k p in
-    let seen : seen_below (in_query above e n) line ≡ in_query (above ++ line ∷ []) e n = seen_below-query above e n line clean.0 clean.1 in
-    let joined : (above ++ line ∷ []) ++ lines ≡ above ++ (line ∷ lines) = append_assoc above (line ∷ []) lines in (
-      λ s. elim s [
-        | inl here ↦ absurd (query_line-clean above e n line clean.0 clean.1 k p here)
-        | inr below ↦ subst (λ (ls : List PlainLine). StandsIn bytes (in_query ls e n) rest k p) joined (more.0 (subst (λ (x : Seen). StandsIn bytes x (lines ++ rest) k p) seen below))
-      ],
-      λ s. inr (subst (λ (x : Seen). StandsIn bytes x (lines ++ rest) k p) (sym seen) (more.1 (subst (λ (ls : List PlainLine). StandsIn bytes (in_query ls e n) rest k p) (sym joined) s))),
-    )
+-- no line of a query has a reserved word but `var`
+module _ (no_word : WordsStandInNoLine) where
+  -- at such a word a syntax fault stands
+  pub word_stands : (above : List PlainLine) (front after : List Piece) (w : List ℕ) → Stands above front (word w) after texts.Syntax
+  word_stands above front after w = no_word front w
+
+  no_words : (above : List PlainLine) (line : PlainLine) → IsCleanLine above line → (w : List ℕ) → count_of w (pieces line.tokens) ≡ 0
+  no_words above line clean w =
+      count_none w line.tokens (λ front after t e x is. clean front after t e texts.Syntax (subst (λ (p : Piece). Stands above (pieces front) p (pieces after) texts.Syntax) (sym is) (word_stands above (pieces front) (pieces after) x)))
+
+  seen_below-query : (above : List PlainLine) (e n : ℕ) (line : PlainLine) → begins_word (pieces line.tokens) ≡ false → IsCleanLine above line → seen_below (in_query above e n) line ≡ in_query (above ++ line ∷ []) e n
+  seen_below-query above e n line own clean =
+      let c : ℕ = count_of executor_word (pieces line.tokens) in
+      let d : ℕ = count_of query_word (pieces line.tokens) in
+      let none : c ≡ 0 = no_words above line clean executor_word in
+      let none' : d ≡ 0 = no_words above line clean query_word in
+      let first : seen_below (in_query above e n) line ≡ in_query (above ++ line ∷ []) (e + c) (n + d) = ap (λ (b : Bool). record { part = cond b (part_of_word (first_word (pieces line.tokens))) (query (above ++ line ∷ [])); executors = e + c; queries = n + d }) own in
+      let second : in_query (above ++ line ∷ []) (e + c) (n + d) ≡ in_query (above ++ line ∷ []) e (n + d) = ap (λ (m : ℕ). in_query (above ++ line ∷ []) m (n + d)) (omega (arith, none)) in
+      let third : in_query (above ++ line ∷ []) e (n + d) ≡ in_query (above ++ line ∷ []) e n = ap (λ (m : ℕ). in_query (above ++ line ∷ []) e m) (omega (arith, none')) in
+      first ∙ second ∙ third
+
+  query_line-clean : (above : List PlainLine) (e n : ℕ) (line : PlainLine) → begins_word (pieces line.tokens) ≡ false → IsCleanLine above line → (k : SessionKind) (p : ℕ) → StandsInLine (in_query above e n) line k p → ⊥
+  query_line-clean above e n line own clean k p s =
+      elim (query_stands above e n line own k p s) [
+        | inl many ↦ elim many [
+          | inl x ↦ a_word executor_word x.1
+          | inr x ↦ a_word query_word x.1
+        ]
+        | inr of_query ↦ clean s.front s.after s.token s.in_line of_query.0 of_query.2
+      ]
+    where
+      a_word : (w : List ℕ) → s.token.piece ≡ word w → ⊥
+      a_word w is = clean s.front s.after s.token s.in_line texts.Syntax (subst (λ (q : Piece). Stands above (pieces s.front) q (pieces s.after) texts.Syntax) (sym is) (word_stands above (pieces s.front) (pieces s.after) w))
+
+  -- behind clean lines of a query the same faults stand
+  pub clean_prefix : (bytes : List ℕ) (above lines rest : List PlainLine) (e n : ℕ) → AreCleanLines above lines → (k : SessionKind) (p : ℕ) → (StandsIn bytes (in_query above e n) (lines ++ rest) k p → StandsIn bytes (in_query (above ++ lines) e n) rest k p) × (StandsIn bytes (in_query (above ++ lines) e n) rest k p → StandsIn bytes (in_query above e n) (lines ++ rest) k p)
+  clean_prefix bytes above [] rest e n clean k p = (
+    λ s. subst (λ (ls : List PlainLine). StandsIn bytes (in_query ls e n) rest k p) (sym (append-nil above)) s,
+    λ s. subst (λ (ls : List PlainLine). StandsIn bytes (in_query ls e n) rest k p) (append-nil above) s,
+  )
+  clean_prefix bytes above (line ∷ lines) rest e n clean k p =
+      let more = clean_prefix bytes (above ++ line ∷ []) lines rest e n clean.2 k p in
+      let seen : seen_below (in_query above e n) line ≡ in_query (above ++ line ∷ []) e n = seen_below-query above e n line clean.0 clean.1 in
+      let joined : (above ++ line ∷ []) ++ lines ≡ above ++ (line ∷ lines) = append_assoc above (line ∷ []) lines in (
+        λ s. elim s [
+          | inl here ↦ absurd (query_line-clean above e n line clean.0 clean.1 k p here)
+          | inr below ↦ subst (λ (ls : List PlainLine). StandsIn bytes (in_query ls e n) rest k p) joined (more.0 (subst (λ (x : Seen). StandsIn bytes x (lines ++ rest) k p) seen below))
+        ],
+        λ s. inr (subst (λ (x : Seen). StandsIn bytes x (lines ++ rest) k p) (sym seen) (more.1 (subst (λ (ls : List PlainLine). StandsIn bytes (in_query ls e n) rest k p) (sym joined) s))),
+      )
 
 -- a query's lines among those of a text
 
@@ -218,12 +219,12 @@ clean_all above (line ∷ lines) own none = (
 )
 
 -- a query that is spelled has no fault
-module _ (bytes : List ℕ) (at : ℕ) (q : PlainCondition) (stop : ℕ) (e n : ℕ) (s : Spells false bytes at q stop) where
+module _ (laws : TextsAreLawful) (bytes : List ℕ) (at : ℕ) (q : PlainCondition) (stop : ℕ) (e n : ℕ) (s : Spells false bytes at q stop) where
   abbrev c : Cut s.lines
   c = cut s.lines
 
   clean : AreCleanLines [] c.own
-  clean = clean_all [] c.own c.no_words (λ k p f. Spell-no_fault (query_lines s.lines) q k p s.spelled (subst (λ (ls : List PlainLine). LinesFault ls k p) (sym c.are) f))
+  clean = clean_all [] c.own c.no_words (λ k p f. laws.no_fault (query_lines s.lines) q k p s.spelled (subst (λ (ls : List PlainLine). LinesFault ls k p) (sym c.are) f))
 
   all : AreLines false bytes at (c.own ++ c.rest)
   all = subst (λ (ls : List PlainLine). AreLines false bytes at ls) c.all s.are
@@ -232,23 +233,23 @@ module _ (bytes : List ℕ) (at : ℕ) (q : PlainCondition) (stop : ℕ) (e n : 
   rest = subst (λ (m : ℕ). AreLines false bytes m c.rest) (sym (s.ends ∙ ap (start_of bytes) c.left)) (are_rest bytes at c.own c.rest all)
 
   to : (k : SessionKind) (p : ℕ) → StandsIn bytes (in_query [] e n) (c.own ++ c.rest) k p → StandsIn bytes (asked e n) c.rest k p
-  to k p f = (same_part bytes c.own c.rest e n c.stops k p).0 ((clean_prefix bytes [] c.own c.rest e n clean k p).0 f)
+  to k p f = (same_part bytes c.own c.rest e n c.stops k p).0 ((clean_prefix laws.no_word bytes [] c.own c.rest e n clean k p).0 f)
 
   from : (k : SessionKind) (p : ℕ) → StandsIn bytes (asked e n) c.rest k p → StandsIn bytes (in_query [] e n) (c.own ++ c.rest) k p
-  from k p f = (clean_prefix bytes [] c.own c.rest e n clean k p).1 ((same_part bytes c.own c.rest e n c.stops k p).1 f)
+  from k p f = (clean_prefix laws.no_word bytes [] c.own c.rest e n clean k p).1 ((same_part bytes c.own c.rest e n c.stops k p).1 f)
 
   back : (k : SessionKind) (p : ℕ) → HasFaultFrom (asked e n) bytes stop k p → HasFaultFrom (in_query [] e n) bytes at k p
   back k p h = record {
     lines = c.own ++ c.rest;
     are = all;
-    first = IsFirst-map (StandsIn bytes (asked e n) c.rest) (StandsIn bytes (in_query [] e n) (c.own ++ c.rest)) k p from to (subst (λ (ls : List PlainLine). IsFirst (StandsIn bytes (asked e n) ls) k p) (AreLines-once false bytes stop h.lines c.rest h.are rest) h.first);
+    first = IsFirst-map (StandsIn bytes (asked e n) c.rest) (StandsIn bytes (in_query [] e n) (c.own ++ c.rest)) k p from to (subst (λ (ls : List PlainLine). IsFirst (StandsIn bytes (asked e n) ls) k p) ((laws.in_order false bytes).lines_once stop h.lines c.rest h.are rest) h.first);
   }
 
   forth : (k : SessionKind) (p : ℕ) → HasFaultFrom (in_query [] e n) bytes at k p → HasFaultFrom (asked e n) bytes stop k p
   forth k p h = record {
     lines = c.rest;
     are = rest;
-    first = IsFirst-map (StandsIn bytes (in_query [] e n) (c.own ++ c.rest)) (StandsIn bytes (asked e n) c.rest) k p to from (subst (λ (ls : List PlainLine). IsFirst (StandsIn bytes (in_query [] e n) ls) k p) (AreLines-once false bytes at h.lines (c.own ++ c.rest) h.are all) h.first);
+    first = IsFirst-map (StandsIn bytes (in_query [] e n) (c.own ++ c.rest)) (StandsIn bytes (asked e n) c.rest) k p to from (subst (λ (ls : List PlainLine). IsFirst (StandsIn bytes (in_query [] e n) ls) k p) ((laws.in_order false bytes).lines_once at h.lines (c.own ++ c.rest) h.are all) h.first);
   }
 
   pub Leads-query : Leads bytes (in_query [] e n) at (asked e n) stop

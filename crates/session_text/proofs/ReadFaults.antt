@@ -8,7 +8,8 @@ use Rattle.lin_text.specs.Lines.{line_below, is_in_line}
 use Rattle.lin_text.specs.Pieces.{Piece, word, bad, PlainToken, PlainLine, pieces, AreLines}
 use Rattle.lin_text.specs.Faults.{Stands, StandsAt as LinesFault, IsFirstFault, rank as text_rank}
 use Rattle.lin_text.specs.Queries.{begins_word, HasFault}
-use Rattle.lin_text.proofs.Positions.{tokens-within, tokens-later, lines-behind}
+use Rattle.lin_text.specs.Laws.{WordsStandInNoLine}
+use Rattle.lin_text.specs.LineLaws.{LinesAreInOrder}
 use Rattle.session_text.specs.Words.{executor_word, query_word, token_at}
 use Rattle.session_text.specs.Classes.{class_of, query_refusal}
 use Rattle.session_text.specs.Faults.{count_of, session_kind, IsOneTooMany, IsOfQuery, StandsInLine, StandsIn, rank}
@@ -62,23 +63,25 @@ NoWords-at (a ∷ above) lines line (o ∷ own) e h =
     let more = NoWords-at above lines line own rest h.1 in
     ((subst (λ (l : PlainLine). begins_word (pieces l.tokens) ≡ false) same h.0, more.0), more.1)
 
--- the lines above the first fault are clean
-earlier_clean : (bytes : List ℕ) (at : ℕ) (above lines : List PlainLine) (line : PlainLine) (below more : List PlainLine) → AreLines false bytes at (lines ++ line ∷ more) → NoWords lines → (k : TextKind) (place : ℕ) → IsFirstFault (above ++ (lines ++ line ∷ below)) k place → line.start ≤ place → AreCleanLines above lines
-earlier_clean bytes at above [] line below more are own k place first here = tt
-earlier_clean bytes at above (l ∷ lines) line below more are own k place first here = (
-  own.0,
-  λ front after t e j s.
-      let w = tokens-within false bytes l.start l.tokens front after t are.2 e in
-      let b = lines-behind false bytes (line_below bytes l.start) (lines ++ line ∷ more) lines more line are.3 refl in
-      elim (first.least j t.from (record { above = above; line = l; below = lines ++ line ∷ below; front = front; token = t; after = after; in_lines = refl; in_line = e; place = refl; stands = s })) [
-        | inl later ↦ omega (arith, later, here, w.1, b.0, b.1)
-        | inr same ↦ omega (arith, same.0, here, w.1, b.0, b.1)
-      ],
-  earlier_clean bytes (line_below bytes l.start) (above ++ l ∷ []) lines line below more are.3 own.1 k place (subst (λ (ls : List PlainLine). IsFirstFault ls k place) (sym (append_assoc above (l ∷ []) (lines ++ line ∷ below))) first) here,
-)
+-- the lines and tokens of a text are in order
+module _ (in_order : LinesAreInOrder) where
+  -- the lines above the first fault are clean
+  earlier_clean : (bytes : List ℕ) (at : ℕ) (above lines : List PlainLine) (line : PlainLine) (below more : List PlainLine) → AreLines false bytes at (lines ++ line ∷ more) → NoWords lines → (k : TextKind) (place : ℕ) → IsFirstFault (above ++ (lines ++ line ∷ below)) k place → line.start ≤ place → AreCleanLines above lines
+  earlier_clean bytes at above [] line below more are own k place first here = tt
+  earlier_clean bytes at above (l ∷ lines) line below more are own k place first here = (
+    own.0,
+    λ front after t e j s.
+        let w = (in_order false bytes).token_within l.start l.tokens front after t are.2 e in
+        let b = (in_order false bytes).line_behind (line_below bytes l.start) (lines ++ line ∷ more) lines more line are.3 refl in
+        elim (first.least j t.from (record { above = above; line = l; below = lines ++ line ∷ below; front = front; token = t; after = after; in_lines = refl; in_line = e; place = refl; stands = s })) [
+          | inl later ↦ omega (arith, later, here, w.1, b.0, b.1)
+          | inr same ↦ omega (arith, same.0, here, w.1, b.0, b.1)
+        ],
+    earlier_clean bytes (line_below bytes l.start) (above ++ l ∷ []) lines line below more are.3 own.1 k place (subst (λ (ls : List PlainLine). IsFirstFault ls k place) (sym (append_assoc above (l ∷ []) (lines ++ line ∷ below))) first) here,
+  )
 
 -- The first fault of a query's text.
-module _ (bytes : List ℕ) (at : ℕ) (k : TextKind) (place : ℕ) (h : HasFault false bytes at k place) (e n : ℕ) where
+module _ (in_order : LinesAreInOrder) (no_word : WordsStandInNoLine) (bytes : List ℕ) (at : ℕ) (k : TextKind) (place : ℕ) (h : HasFault false bytes at k place) (e n : ℕ) where
   abbrev c : Cut h.lines
   c = cut h.lines
 
@@ -101,24 +104,24 @@ module _ (bytes : List ℕ) (at : ℕ) (k : TextKind) (place : ℕ) (h : HasFaul
   own = NoWords-at f.above f.below f.line c.own f.in_lines c.no_words
 
   behind_start : f.line.start ≤ place
-  behind_start = omega (arith, f.place, (tokens-within false bytes f.line.start f.line.tokens f.front f.after f.token here.2 f.in_line).0)
+  behind_start = omega (arith, f.place, ((in_order false bytes).token_within f.line.start f.line.tokens f.front f.after f.token here.2 f.in_line).0)
 
   clean : AreCleanLines [] f.above
-  clean = earlier_clean bytes at [] f.above f.line f.below below all own.0 k place (subst (λ (ls : List PlainLine). IsFirstFault ls k place) f.in_lines first) behind_start
+  clean = earlier_clean in_order bytes at [] f.above f.line f.below below all own.0 k place (subst (λ (ls : List PlainLine). IsFirstFault ls k place) f.in_lines first) behind_start
 
   -- a fault of the line is one of the query's text
   in_text : (front after : List PlainToken) (t : PlainToken) → f.line.tokens ≡ front ++ t ∷ after → (j : TextKind) → Stands f.above (pieces front) t.piece (pieces after) j → LinesFault c.own j t.from
   in_text front after t split j s = record { above = f.above; line = f.line; below = f.below; front = front; token = t; after = after; in_lines = f.in_lines; in_line = split; place = refl; stands = s }
 
   word_in_text : (front after : List PlainToken) (t : PlainToken) (w : List ℕ) → f.line.tokens ≡ front ++ t ∷ after → t.piece ≡ word w → LinesFault c.own texts.Syntax t.from
-  word_in_text front after t w split is = in_text front after t split texts.Syntax (subst (λ (p : Piece). Stands f.above (pieces front) p (pieces after) texts.Syntax) (sym is) (word_stands f.above (pieces front) (pieces after) w))
+  word_in_text front after t w split is = in_text front after t split texts.Syntax (subst (λ (p : Piece). Stands f.above (pieces front) p (pieces after) texts.Syntax) (sym is) (word_stands no_word f.above (pieces front) (pieces after) w))
 
   -- no word stands before the fault
   none_before : (front after : List PlainToken) (t : PlainToken) → f.line.tokens ≡ front ++ t ∷ after → t.from ≤ place → (w : List ℕ) → count_of w (pieces front) ≡ 0
   none_before front after t split le w =
       count_none w front (λ before mid u e x is.
       let there : f.line.tokens ≡ before ++ u ∷ (mid ++ t ∷ after) = split ∙ ap (λ (us : List PlainToken). us ++ t ∷ after) e ∙ append_assoc before (u ∷ mid) (t ∷ after) in
-      let earlier : u.from < t.from = tokens-later false bytes f.line.start f.line.tokens before mid after u t here.2 there in
+      let earlier : u.from < t.from = (in_order false bytes).token_later f.line.start f.line.tokens before mid after u t here.2 there in
       elim (first.least texts.Syntax u.from (word_in_text before (mid ++ t ∷ after) u x there is)) [
         | inl later ↦ omega (arith, later, earlier, le)
         | inr same ↦ omega (arith, same.0, earlier, le)
@@ -211,7 +214,7 @@ module _ (bytes : List ℕ) (at : ℕ) (k : TextKind) (place : ℕ) (h : HasFaul
     from_start = record {
       lines = f.above ++ f.line ∷ below;
       are = all;
-      first = IsFirst-map (StandsIn bytes (in_query f.above e n) (f.line ∷ below)) (StandsIn bytes (in_query [] e n) (f.above ++ f.line ∷ below)) kind place (λ j p. (clean_prefix bytes [] f.above (f.line ∷ below) e n clean j p).1) (λ j p. (clean_prefix bytes [] f.above (f.line ∷ below) e n clean j p).0) (first_here bytes (in_query f.above e n) f.line.start f.line below here kind place stands least);
+      first = IsFirst-map (StandsIn bytes (in_query f.above e n) (f.line ∷ below)) (StandsIn bytes (in_query [] e n) (f.above ++ f.line ∷ below)) kind place (λ j p. (clean_prefix no_word bytes [] f.above (f.line ∷ below) e n clean j p).1) (λ j p. (clean_prefix no_word bytes [] f.above (f.line ∷ below) e n clean j p).0) (first_here in_order bytes (in_query f.above e n) f.line.start f.line below here kind place stands least);
     }
 
   -- the first token from the place of the fault
@@ -221,7 +224,7 @@ module _ (bytes : List ℕ) (at : ℕ) (k : TextKind) (place : ℕ) (h : HasFaul
   -- the fault's place is within the text, and a token is read there
   pub fault-within : place ≤ length bytes
   fault-within =
-      let w = tokens-within false bytes f.line.start f.line.tokens f.front f.after f.token here.2 f.in_line in
+      let w = (in_order false bytes).token_within f.line.start f.line.tokens f.front f.after f.token here.2 f.in_line in
       omega (arith, w.1, f.place, here.1, prefix_len-le-length is_in_line (drop f.line.start bytes), length-drop f.line.start bytes)
 
   pub fault-from : (token_at bytes place).from ≡ place

@@ -8,6 +8,7 @@ use Rattle.session_text.specs.Sessions.{body_of}
 use Rattle.session_text.specs.Faults.{StandsIn}
 use Rattle.session_text.specs.Laws.{SpelledHasNoFault}
 use Rattle.session_text.specs.Reading.{HasFaultFrom, part_after}
+use Rattle.session_text.specs.Lawful.{TextsAreLawful}
 use Rattle.session_text.proofs.WordLines.{behind_end, between-no_query, between-end, Leads-executors, Leads-end}
 use Rattle.session_text.proofs.Wholes.{fault_behind}
 
@@ -19,11 +20,11 @@ nothing_behind bytes e n at k p whole h = by_lines h.lines h.are h.first.stands
     by_lines [] are s = s.2 refl
     by_lines (line ∷ lines) are s = omega (arith, are.0, are.1, whole)
 
-pub SpellsSession-no_fault : SpelledHasNoFault
-SpellsSession-no_fault bytes s spelled k p f =
+pub SpellsSession-no_fault : TextsAreLawful → SpelledHasNoFault
+SpellsSession-no_fault laws bytes s spelled k p f =
     let n : ℕ = 0 + sum_by length s in
     let e : ℕ = 0 + length s in
     let first = fault_behind bytes spelled.header k p f in
-    let second = (Leads-executors bytes 0 0 (body_of bytes) spelled.stop s (omega (arith, spelled.fits.few_executors)) (omega (arith, spelled.fits.few_queries)) spelled.are).forth k p first in
-    let third = (Leads-end bytes (part_after e) e n spelled.stop spelled.ended.below (between-no_query e) (between-end e) spelled.ended.line).forth k p second in
+    let second = (Leads-executors laws bytes 0 0 (body_of bytes) spelled.stop s (omega (arith, spelled.fits.few_executors)) (omega (arith, spelled.fits.few_queries)) spelled.are).forth k p first in
+    let third = (Leads-end laws.in_order bytes (part_after e) e n spelled.stop spelled.ended.below (between-no_query e) (between-end e) spelled.ended.line).forth k p second in
     nothing_behind bytes e n spelled.ended.below k p spelled.ended.whole third

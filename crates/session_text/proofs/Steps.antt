@@ -7,7 +7,8 @@ use Rattle.lin_text.specs.declared.fault.SessionKind.{SessionKind}
 use Rattle.lin_text.specs.Lines.{line_from}
 use Rattle.lin_text.specs.Pieces.{Piece, word, line_end, PlainLine, AreLines}
 use Rattle.lin_text.specs.Queries.{Spells, start_of}
-use Rattle.lin_text.proofs.Positions.{first_line-bounds, lines-behind}
+use Rattle.lin_text.specs.LineLaws.{LinesAreInOrder}
+use Rattle.lin_text.specs.Facts.{first_line-bounds}
 use Rattle.session_text.specs.declared.refusal.Fault.{Fault}
 use Rattle.session_text.specs.declared.refusal.ReadError.{ReadError}
 use Rattle.session_text.specs.declared.refusal.ReadError.TheVariants as errors
@@ -41,27 +42,6 @@ handed_up (Err x) e bytes s at is h = subst (λ (y : ReadError). IsReadError s b
 pub fault_is : (f : Fault) (bytes : List ℕ) (s : Seen) (at : ℕ) (kind : SessionKind) (place : ℕ) → f.kind ≡ kind → f.at ≡ place → HasFaultFrom s bytes at kind place → HasFaultFrom s bytes at f.kind f.at
 fault_is f bytes s at kind place k p h = subst (λ (j : SessionKind). HasFaultFrom s bytes at j f.at) (sym k) (subst (λ (m : ℕ). HasFaultFrom s bytes at kind m) (sym p) h)
 
--- what stands behind each of the words on its line
-
-pub second_query : (bytes : List ℕ) (e n at : ℕ) → (token_at bytes (line_from bytes at)).piece ≡ word query_word → (n ≡ 100000 → ⊥) → ((second_at bytes (line_from bytes at)).piece ≡ line_end → ⊥) → HasFaultFrom (asked e n) bytes at (refusal_kind (class_of (second_at bytes (line_from bytes at)).piece) e (n + 1)) (second_at bytes (line_from bytes at)).from
-unfolding executor_word query_word
-second_query bytes e n at begins few goes_on =
-    subst (λ (m : ℕ). HasFaultFrom (asked e n) bytes at (refusal_kind (class_of (second_at bytes (line_from bytes at)).piece) m (n + 1)) (second_at bytes (line_from bytes at)).from) (let same : e + 0 ≡ e = omega arith in same)
-    (second_refused bytes (asked e n) at query_word (λ ps. refl) begins (record { may = inr (inl refl); few_executors = λ x full. executor_not_query (sym x); few_queries = λ x full. few full }) goes_on)
-
-pub second_executor : (bytes : List ℕ) (e n at : ℕ) → (token_at bytes (line_from bytes at)).piece ≡ word executor_word → (e ≡ 64 → ⊥) → ((second_at bytes (line_from bytes at)).piece ≡ line_end → ⊥) → HasFaultFrom (between e n) bytes at (refusal_kind (class_of (second_at bytes (line_from bytes at)).piece) (e + 1) n) (second_at bytes (line_from bytes at)).from
-unfolding executor_word query_word
-second_executor bytes e n at begins few goes_on =
-    subst (λ (m : ℕ). HasFaultFrom (between e n) bytes at (refusal_kind (class_of (second_at bytes (line_from bytes at)).piece) (e + 1) m) (second_at bytes (line_from bytes at)).from) (let same : n + 0 ≡ n = omega arith in same)
-    (second_refused bytes (between e n) at executor_word (between-no_query e) begins (record { may = between-executor e; few_executors = λ x full. few full; few_queries = λ x full. executor_not_query x }) goes_on)
-
-pub second_end : (bytes : List ℕ) (e n at : ℕ) → (token_at bytes (line_from bytes at)).piece ≡ word end_word → ((second_at bytes (line_from bytes at)).piece ≡ line_end → ⊥) → HasFaultFrom (between e n) bytes at (refusal_kind (class_of (second_at bytes (line_from bytes at)).piece) e n) (second_at bytes (line_from bytes at)).from
-unfolding executor_word query_word end_word
-second_end bytes e n at begins goes_on =
-    subst (λ (m : ℕ). HasFaultFrom (between e n) bytes at (refusal_kind (class_of (second_at bytes (line_from bytes at)).piece) m n) (second_at bytes (line_from bytes at)).from) (let same : e + 0 ≡ e = omega arith in same)
-    (subst (λ (m : ℕ). HasFaultFrom (between e n) bytes at (refusal_kind (class_of (second_at bytes (line_from bytes at)).piece) (e + 0) m) (second_at bytes (line_from bytes at)).from) (let same : n + 0 ≡ n = omega arith in same)
-    (second_refused bytes (between e n) at end_word (between-no_query e) begins (record { may = between-end e; few_executors = λ x full. executor_not_end (sym x); few_queries = λ x full. query_not_end (sym x) }) goes_on))
-
 -- what was read, with one more
 
 pub AreQueries-push : (bytes : List ℕ) (at mid stop : ℕ) (qs : List PlainCondition) (q : PlainCondition) → AreQueries bytes at qs mid → IsQuery bytes mid q stop → AreQueries bytes at (qs ++ q ∷ []) stop
@@ -72,39 +52,12 @@ pub AreExecutors-push : (bytes : List ℕ) (at mid stop : ℕ) (es : List (List 
 AreExecutors-push bytes at mid stop [] qs are is = (stop, subst (λ (m : ℕ). IsExecutor bytes m qs stop) are is, refl)
 AreExecutors-push bytes at mid stop (r ∷ es) qs are is = (are.0, are.1, AreExecutors-push bytes are.0 mid stop es qs are.2 is)
 
--- a query ends behind its start
-
-pub Spells-ahead : (bytes : List ℕ) (at : ℕ) (q : PlainCondition) (stop : ℕ) → at ≤ length bytes → Spells false bytes at q stop → (at ≤ stop) × (stop ≤ length bytes)
-Spells-ahead bytes at q stop le s = by_rest c.rest (subst (λ (ls : List PlainLine). AreLines false bytes at ls) c.all s.are) (s.ends ∙ ap (start_of bytes) c.left)
-  where
-    c : Cut s.lines
-    c = cut s.lines
-
-    by_rest : (rest : List PlainLine) → AreLines false bytes at (c.own ++ rest) → stop ≡ start_of bytes rest → (at ≤ stop) × (stop ≤ length bytes)
-    by_rest [] are is = (omega (arith, is, le), omega (arith, is))
-    by_rest (line ∷ lines) are is = let b = lines-behind false bytes at (c.own ++ line ∷ lines) c.own lines line are refl in (omega (arith, is, b.0), omega (arith, is, b.1))
-
 -- a line of one word ends behind its start
 pub IsWordLine-ahead : (w : List ℕ) (bytes : List ℕ) (at below : ℕ) → IsWordLine w bytes at below → (at < below) × (below ≤ length bytes)
 IsWordLine-ahead w bytes at below is =
     let lt = begins_before_end bytes (line_from bytes at) w is.begins in
     let b = first_line-bounds true at (drop at bytes) in
     (omega (arith, is.next, lt, b.0), omega (arith, is.next))
-
-pub IsQuery-ahead : (bytes : List ℕ) (at : ℕ) (q : PlainCondition) (stop : ℕ) → IsQuery bytes at q stop → (at < stop) × (stop ≤ length bytes)
-IsQuery-ahead bytes at q stop is =
-    let w = IsWordLine-ahead query_word bytes at is.below is.line in
-    let s = Spells-ahead bytes is.below q stop w.1 is.spelled in
-    (omega (arith, w.0, s.0), s.1)
-
-pub AreQueries-ahead : (bytes : List ℕ) (at : ℕ) (qs : List PlainCondition) (stop : ℕ) → AreQueries bytes at qs stop → at ≤ stop
-AreQueries-ahead bytes at [] stop are = omega (arith, are)
-AreQueries-ahead bytes at (q ∷ qs) stop are = omega (arith, (IsQuery-ahead bytes at q are.0 are.1).0, AreQueries-ahead bytes are.0 qs stop are.2)
-
-pub IsExecutor-ahead : (bytes : List ℕ) (at : ℕ) (qs : List PlainCondition) (stop : ℕ) → IsExecutor bytes at qs stop → (at < stop) × (at < length bytes)
-IsExecutor-ahead bytes at qs stop is =
-    let w = IsWordLine-ahead executor_word bytes at is.below is.line in
-    (omega (arith, w.0, AreQueries-ahead bytes is.below qs stop is.asked), omega (arith, w.0, w.1))
 
 -- what was counted, as it is seen
 pub asked-is : (counts so_far : Counts) (k : ℕ) → so_far.executors ≡ counts.executors → so_far.queries ≡ counts.queries + k → asked counts.executors (counts.queries + k) ≡ seen_with executor so_far
@@ -156,3 +109,53 @@ whole_error bytes at (errors.Fault f) header_is is h = whole_fault bytes header_
 pub whole_up : {X : Type 0} (r : Result X ReadError) (e : ReadError) (bytes : List ℕ) → IsErrAnd r (λ x. x ≡ e) → IsSessionError bytes e → IfErr r (IsSessionError bytes)
 whole_up (Ok x) e bytes is h = tt
 whole_up (Err x) e bytes is h = subst (λ (y : ReadError). IsSessionError bytes y) (sym is) h
+
+-- the lines and tokens of a text are in order
+module _ (in_order : LinesAreInOrder) where
+  -- what stands behind each of the words on its line
+
+  pub second_query : (bytes : List ℕ) (e n at : ℕ) → (token_at bytes (line_from bytes at)).piece ≡ word query_word → (n ≡ 100000 → ⊥) → ((second_at bytes (line_from bytes at)).piece ≡ line_end → ⊥) → HasFaultFrom (asked e n) bytes at (refusal_kind (class_of (second_at bytes (line_from bytes at)).piece) e (n + 1)) (second_at bytes (line_from bytes at)).from
+  unfolding executor_word query_word
+  second_query bytes e n at begins few goes_on =
+      subst (λ (m : ℕ). HasFaultFrom (asked e n) bytes at (refusal_kind (class_of (second_at bytes (line_from bytes at)).piece) m (n + 1)) (second_at bytes (line_from bytes at)).from) (let same : e + 0 ≡ e = omega arith in same)
+      (second_refused in_order bytes (asked e n) at query_word (λ ps. refl) begins (record { may = inr (inl refl); few_executors = λ x full. executor_not_query (sym x); few_queries = λ x full. few full }) goes_on)
+
+  pub second_executor : (bytes : List ℕ) (e n at : ℕ) → (token_at bytes (line_from bytes at)).piece ≡ word executor_word → (e ≡ 64 → ⊥) → ((second_at bytes (line_from bytes at)).piece ≡ line_end → ⊥) → HasFaultFrom (between e n) bytes at (refusal_kind (class_of (second_at bytes (line_from bytes at)).piece) (e + 1) n) (second_at bytes (line_from bytes at)).from
+  unfolding executor_word query_word
+  second_executor bytes e n at begins few goes_on =
+      subst (λ (m : ℕ). HasFaultFrom (between e n) bytes at (refusal_kind (class_of (second_at bytes (line_from bytes at)).piece) (e + 1) m) (second_at bytes (line_from bytes at)).from) (let same : n + 0 ≡ n = omega arith in same)
+      (second_refused in_order bytes (between e n) at executor_word (between-no_query e) begins (record { may = between-executor e; few_executors = λ x full. few full; few_queries = λ x full. executor_not_query x }) goes_on)
+
+  pub second_end : (bytes : List ℕ) (e n at : ℕ) → (token_at bytes (line_from bytes at)).piece ≡ word end_word → ((second_at bytes (line_from bytes at)).piece ≡ line_end → ⊥) → HasFaultFrom (between e n) bytes at (refusal_kind (class_of (second_at bytes (line_from bytes at)).piece) e n) (second_at bytes (line_from bytes at)).from
+  unfolding executor_word query_word end_word
+  second_end bytes e n at begins goes_on =
+      subst (λ (m : ℕ). HasFaultFrom (between e n) bytes at (refusal_kind (class_of (second_at bytes (line_from bytes at)).piece) m n) (second_at bytes (line_from bytes at)).from) (let same : e + 0 ≡ e = omega arith in same)
+      (subst (λ (m : ℕ). HasFaultFrom (between e n) bytes at (refusal_kind (class_of (second_at bytes (line_from bytes at)).piece) (e + 0) m) (second_at bytes (line_from bytes at)).from) (let same : n + 0 ≡ n = omega arith in same)
+      (second_refused in_order bytes (between e n) at end_word (between-no_query e) begins (record { may = between-end e; few_executors = λ x full. executor_not_end (sym x); few_queries = λ x full. query_not_end (sym x) }) goes_on))
+
+  -- a query ends behind its start
+
+  pub Spells-ahead : (bytes : List ℕ) (at : ℕ) (q : PlainCondition) (stop : ℕ) → at ≤ length bytes → Spells false bytes at q stop → (at ≤ stop) × (stop ≤ length bytes)
+  Spells-ahead bytes at q stop le s = by_rest c.rest (subst (λ (ls : List PlainLine). AreLines false bytes at ls) c.all s.are) (s.ends ∙ ap (start_of bytes) c.left)
+    where
+      c : Cut s.lines
+      c = cut s.lines
+
+      by_rest : (rest : List PlainLine) → AreLines false bytes at (c.own ++ rest) → stop ≡ start_of bytes rest → (at ≤ stop) × (stop ≤ length bytes)
+      by_rest [] are is = (omega (arith, is, le), omega (arith, is))
+      by_rest (line ∷ lines) are is = let b = (in_order false bytes).line_behind at (c.own ++ line ∷ lines) c.own lines line are refl in (omega (arith, is, b.0), omega (arith, is, b.1))
+
+  pub IsQuery-ahead : (bytes : List ℕ) (at : ℕ) (q : PlainCondition) (stop : ℕ) → IsQuery bytes at q stop → (at < stop) × (stop ≤ length bytes)
+  IsQuery-ahead bytes at q stop is =
+      let w = IsWordLine-ahead query_word bytes at is.below is.line in
+      let s = Spells-ahead bytes is.below q stop w.1 is.spelled in
+      (omega (arith, w.0, s.0), s.1)
+
+  pub AreQueries-ahead : (bytes : List ℕ) (at : ℕ) (qs : List PlainCondition) (stop : ℕ) → AreQueries bytes at qs stop → at ≤ stop
+  AreQueries-ahead bytes at [] stop are = omega (arith, are)
+  AreQueries-ahead bytes at (q ∷ qs) stop are = omega (arith, (IsQuery-ahead bytes at q are.0 are.1).0, AreQueries-ahead bytes are.0 qs stop are.2)
+
+  pub IsExecutor-ahead : (bytes : List ℕ) (at : ℕ) (qs : List PlainCondition) (stop : ℕ) → IsExecutor bytes at qs stop → (at < stop) × (at < length bytes)
+  IsExecutor-ahead bytes at qs stop is =
+      let w = IsWordLine-ahead executor_word bytes at is.below is.line in
+      (omega (arith, w.0, AreQueries-ahead bytes is.below qs stop is.asked), omega (arith, w.0, w.1))

@@ -4,14 +4,14 @@ use Rattle.std.specs.Prelude.{MatchBool, slice_range, bytes_eq, codes, ◌&&◌}
 use Rattle.std.specs.List.{prefix_len}
 use Rattle.std.proofs.lemmas.List.{drop-drop}
 use Rattle.std.proofs.lemmas.Bool.{false≢true}
+use Rattle.lin_model.specs.Lists.{not_nil}
 use Rattle.lin_text.specs.declared.token.Token.{Token}
 use Rattle.lin_text.specs.declared.token.TokenKind.{TokenKind}
 use Rattle.lin_text.specs.declared.token.TokenKind.TheVariants as kinds
 use Rattle.lin_text.specs.Lines.{is_feed, is_blank, is_skipped, first_line, line_from}
 use Rattle.lin_text.specs.Tokens.{token_from, token_here, token_of, token_length, kind_of, nothing_at}
 use Rattle.lin_text.specs.Pieces.{var, word, name, compare, plus, minus, times, line_end as line_end_piece, PlainToken, plain_token, piece_of, name_piece, symbol_piece, is_word, comparison_of, is_last, AreTokens}
-use Rattle.lin_text.proofs.LineLemmas.{line_from-here}
-use Rattle.lin_text.proofs.Positions.{first_line-bounds}
+use Rattle.lin_text.specs.Facts.{first_line-bounds, line_from-here}
 use Rattle.session_text.specs.Words.{token_at, second_at, text_of}
 
 -- behind a run nothing of the run comes
@@ -63,10 +63,6 @@ token-again bytes at (t ∷ ts) (f ∷ front) after u are e =
       | true ↦ λ h. absurd (not_nil front u after (sym rest ∙ h))
       | false ↦ λ h. token-again bytes t.to ts front after u h rest
     ] are.1
-  where
-    not_nil : (xs : List PlainToken) (x : PlainToken) (ys : List PlainToken) → xs ++ x ∷ ys ≡ [] → ⊥
-    not_nil [] x ys e = cc
-    not_nil (y ∷ xs) x ys e = cc
 
 -- a line that isn't skipped begins where it was found
 first_line-counts : (begins : Bool) (at : ℕ) (bs : List ℕ) (n : ℕ) → first_line begins at bs ≡ at + n → n < length bs → is_skipped (drop n bs) ≡ false

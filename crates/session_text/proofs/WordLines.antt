@@ -5,17 +5,18 @@ use Rattle.std.proofs.lemmas.List.{at_drop_all}
 use Rattle.std.proofs.lemmas.List.Sums.{sum_by-cons}
 use Rattle.std.proofs.lemmas.Bool.Decides.{eqb_tells}
 use borrow.Author.Tests.{ltb-true, ltb-false}
+use Rattle.std.specs.List.{prefix_len}
 use Rattle.lin_model.specs.Conditions.{PlainCondition}
 use Rattle.lin_text.specs.declared.fault.SessionKind.{SessionKind}
-use Rattle.std.specs.List.{prefix_len}
 use Rattle.lin_text.specs.Lines.{line_from, line_below, is_blank}
 use Rattle.lin_text.specs.Tokens.{token_from, token_here}
 use Rattle.lin_text.specs.Pieces.{Piece, word, line_end, PlainToken, PlainLine, plain_token, piece_of, pieces, AreTokens, AreLines}
-use Rattle.lin_text.proofs.Positions.{tokens_total, lines_total}
+use Rattle.lin_text.specs.LineLaws.{LinesAreInOrder}
 use Rattle.session_text.specs.Words.{executor_word, query_word, end_word, token_at, second_at, IsWordLine}
 use Rattle.session_text.specs.Sessions.{IsQuery, AreQueries, IsExecutor, AreExecutors}
 use Rattle.session_text.specs.Faults.{Part, header, executor, ended, Seen, count_of, part_of_word, seen_below, MayBegin, query_above, StandsInLine}
 use Rattle.session_text.specs.Reading.{part_after}
+use Rattle.session_text.specs.Lawful.{TextsAreLawful}
 use Rattle.session_text.proofs.WordLemmas.{executor_not_query, executor_not_end, query_not_end}
 use Rattle.session_text.proofs.TokenLemmas.{two_tokens}
 use Rattle.session_text.proofs.FirstFaults.{Leads, Leads-refl, Leads-trans, clean_line}
@@ -46,12 +47,6 @@ pub record Lines (bytes : List ℕ) (at : ℕ) : Type 0 where
   pub tokens : List PlainToken
   pub lines : List PlainLine
   pub are : AreLines false bytes at (record { start = line_from bytes at; tokens = tokens } ∷ lines)
-
-pub lines_there : (bytes : List ℕ) (at : ℕ) → line_from bytes at < length bytes → Lines bytes at
-lines_there bytes at lt =
-    let ts = tokens_total (suc (length bytes)) false bytes (line_from bytes at) (omega arith) (omega arith) in
-    let more = lines_total (suc (length bytes)) false bytes (line_below bytes (line_from bytes at)) (omega arith) (omega arith) in
-    record { tokens = ts.0; lines = more.0; are = (refl, lt, ts.1, more.1) }
 
 -- a word that may begin a line, and doesn't come once too often
 pub record IsWelcome (seen : Seen) (w : List ℕ) : Type 0 where
@@ -85,82 +80,6 @@ seen_word seen w = record {
   queries = seen.queries + count_of query_word (word w ∷ line_end ∷ []);
 }
 
-pub Leads-word : (bytes : List ℕ) (seen : Seen) (at below : ℕ) (w : List ℕ) → IsNoQuery seen.part → IsWordLine w bytes at below → IsWelcome seen w → Leads bytes seen at (seen_word seen w) below
-Leads-word bytes seen at below w own is welcome =
-    subst (λ (m : ℕ). Leads bytes seen at (seen_word seen w) m) (sym is.next)
-    (subst (λ (s : Seen). Leads bytes seen at s (line_below bytes start)) seen_is (clean_line bytes seen at line refl lt are clean))
-  where
-    start : ℕ
-    start = line_from bytes at
-
-    t : PlainToken
-    t = token_at bytes start
-
-    u : PlainToken
-    u = second_at bytes start
-
-    line : PlainLine
-    line = record { start = start; tokens = t ∷ u ∷ [] }
-
-    lt : start < length bytes
-    lt = begins_before_end bytes start w is.begins
-
-    are : AreTokens false bytes start (t ∷ u ∷ [])
-    are =
-        let ts = tokens_total (suc (length bytes)) false bytes start (omega (arith, lt)) (omega arith) in
-        subst (λ (vs : List PlainToken). AreTokens false bytes start vs) (two_tokens bytes start w ts.0 ts.1 is.begins is.ends) ts.1
-
-    seen_is : seen_below seen line ≡ seen_word seen w
-    seen_is = ap (λ (p : Piece). seen_below seen (record { start = start; tokens = record { from = t.from; to = t.to; piece = p } ∷ u ∷ [] })) is.begins ∙ ap (λ (p : Piece). seen_below seen (record { start = start; tokens = record { from = t.from; to = t.to; piece = word w } ∷ record { from = u.from; to = u.to; piece = p } ∷ [] })) is.ends
-
-    clean : (k : SessionKind) (p : ℕ) → StandsInLine seen line k p → ⊥
-    clean k p s =
-        let o = own_stands seen line (own (pieces line.tokens)) k p s in
-        elim (two_cases t u s.front s.after s.token s.in_line) [
-          | inl first ↦
-              welcome_clean seen w welcome k (subst (λ (q : Piece). OwnStands seen [] q k) (ap (λ (v : PlainToken). v.piece) first.1 ∙ is.begins) (subst (λ (vs : List PlainToken). OwnStands seen (pieces vs) s.token.piece k) first.0 o))
-          | inr second ↦
-              end_clean seen w welcome k (subst (λ (q : Piece). OwnStands seen (q ∷ []) line_end k) is.begins (subst (λ (q : Piece). OwnStands seen (t.piece ∷ []) q k) (ap (λ (v : PlainToken). v.piece) second.1 ∙ is.ends) (subst (λ (vs : List PlainToken). OwnStands seen (pieces vs) s.token.piece k) second.0 o)))
-        ]
-
--- the three words
-
-pub Leads-executor : (bytes : List ℕ) (part : Part) (e n at below : ℕ) → IsNoQuery part → MayBegin part executor_word → (e ≡ 64 → ⊥) → IsWordLine executor_word bytes at below → Leads bytes (record { part = part; executors = e; queries = n }) at (asked (e + 1) n) below
-unfolding executor_word query_word
-Leads-executor bytes part e n at below own may few is =
-    subst (λ (m : ℕ). Leads bytes (record { part = part; executors = e; queries = n }) at (asked (e + 1) m) below) (let same : n + 0 ≡ n = omega arith in same)
-    (Leads-word bytes (record { part = part; executors = e; queries = n }) at below executor_word own is (record { may = may; few_executors = λ x full. few full; few_queries = λ x full. executor_not_query x }))
-
-pub Leads-query_line : (bytes : List ℕ) (e n at below : ℕ) → (n ≡ 100000 → ⊥) → IsWordLine query_word bytes at below → Leads bytes (asked e n) at (in_query [] e (n + 1)) below
-unfolding executor_word query_word
-Leads-query_line bytes e n at below few is =
-    subst (λ (m : ℕ). Leads bytes (asked e n) at (in_query [] m (n + 1)) below) (let same : e + 0 ≡ e = omega arith in same)
-    (Leads-word bytes (asked e n) at below query_word (λ ps. refl) is (record { may = inr (inl refl); few_executors = λ x full. executor_not_query (sym x); few_queries = λ x full. few full }))
-
-abbrev pub behind_end : ℕ → ℕ → Seen
-behind_end e n = record { part = ended; executors = e; queries = n }
-
-pub Leads-end : (bytes : List ℕ) (part : Part) (e n at below : ℕ) → IsNoQuery part → MayBegin part end_word → IsWordLine end_word bytes at below → Leads bytes (record { part = part; executors = e; queries = n }) at (behind_end e n) below
-unfolding executor_word query_word end_word
-Leads-end bytes part e n at below own may is =
-    subst (λ (m : ℕ). Leads bytes (record { part = part; executors = e; queries = n }) at (behind_end m n) below) (let same : e + 0 ≡ e = omega arith in same)
-    (subst (λ (m : ℕ). Leads bytes (record { part = part; executors = e; queries = n }) at (behind_end (e + 0) m) below) (let same : n + 0 ≡ n = omega arith in same)
-    (Leads-word bytes (record { part = part; executors = e; queries = n }) at below end_word own is (record { may = may; few_executors = λ x full. executor_not_end (sym x); few_queries = λ x full. query_not_end (sym x) })))
-
--- queries, and executors
-
-pub Leads-asked : (bytes : List ℕ) (e n at stop : ℕ) (q : PlainCondition) → (n ≡ 100000 → ⊥) → IsQuery bytes at q stop → Leads bytes (asked e n) at (asked e (n + 1)) stop
-Leads-asked bytes e n at stop q few is =
-    Leads-trans bytes (asked e n) (in_query [] e (n + 1)) (asked e (n + 1)) at is.below stop (Leads-query_line bytes e n at is.below few is.line) (Leads-query bytes is.below q stop e (n + 1) is.spelled)
-
-pub Leads-queries : (bytes : List ℕ) (e n at stop : ℕ) (qs : List PlainCondition) → n + length qs ≤ 100000 → AreQueries bytes at qs stop → Leads bytes (asked e n) at (asked e (n + length qs)) stop
-Leads-queries bytes e n at stop [] few are =
-    subst (λ (m : ℕ). Leads bytes (asked e n) at (asked e m) stop) (let same : n ≡ n + 0 = omega arith in same)
-    (subst (λ (m : ℕ). Leads bytes (asked e n) at (asked e n) m) (sym are) (Leads-refl bytes (asked e n) at))
-Leads-queries bytes e n at stop (q ∷ qs) few are =
-    subst (λ (m : ℕ). Leads bytes (asked e n) at (asked e m) stop) (let same : n + 1 + length qs ≡ n + suc (length qs) = omega arith in same)
-    (Leads-trans bytes (asked e n) (asked e (n + 1)) (asked e (n + 1 + length qs)) at are.0 stop (Leads-asked bytes e n at are.0 q (λ full. omega (arith, full, few)) are.1) (Leads-queries bytes e (n + 1) are.0 stop qs (omega (arith, few)) are.2))
-
 -- above an executor line, or the end line
 abbrev pub between : ℕ → ℕ → Seen
 between e n = record { part = part_after e; executors = e; queries = n }
@@ -181,18 +100,105 @@ between-some e n =
       | inr some ↦ ap (λ (b : Bool). record { part = cond b header executor; executors = e + 1; queries = n }) (sym some.0)
     ]
 
-pub Leads-one : (bytes : List ℕ) (e n at stop : ℕ) (qs : List PlainCondition) → (e ≡ 64 → ⊥) → n + length qs ≤ 100000 → IsExecutor bytes at qs stop → Leads bytes (between e n) at (between (e + 1) (n + length qs)) stop
-Leads-one bytes e n at stop qs few few_queries is =
-    subst (λ (s : Seen). Leads bytes (between e n) at s stop) (between-some e (n + length qs))
-    (Leads-trans bytes (between e n) (asked (e + 1) n) (asked (e + 1) (n + length qs)) at is.below stop (Leads-executor bytes (part_after e) e n at is.below (between-no_query e) (between-executor e) few is.line) (Leads-queries bytes (e + 1) n is.below stop qs few_queries is.asked))
+-- below the end line
+abbrev pub behind_end : ℕ → ℕ → Seen
+behind_end e n = record { part = ended; executors = e; queries = n }
 
-pub Leads-executors : (bytes : List ℕ) (e n at stop : ℕ) (es : List (List PlainCondition)) → e + length es ≤ 64 → n + sum_by length es ≤ 100000 → AreExecutors bytes at es stop → Leads bytes (between e n) at (between (e + length es) (n + sum_by length es)) stop
-Leads-executors bytes e n at stop [] few few_queries are =
-    subst (λ (m : ℕ). Leads bytes (between e n) at (between m (n + 0)) stop) (let same : e ≡ e + 0 = omega arith in same)
-    (subst (λ (m : ℕ). Leads bytes (between e n) at (between e m) stop) (let same : n ≡ n + 0 = omega arith in same)
-    (subst (λ (m : ℕ). Leads bytes (between e n) at (between e n) m) (sym are) (Leads-refl bytes (between e n) at)))
-Leads-executors bytes e n at stop (qs ∷ es) few few_queries are =
-    let sum : sum_by length (qs ∷ es) ≡ length qs + sum_by length es = sum_by-cons length qs es in
-    subst (λ (m : ℕ). Leads bytes (between e n) at (between m (n + sum_by length (qs ∷ es))) stop) (let same : e + 1 + length es ≡ e + suc (length es) = omega arith in same)
-    (subst (λ (m : ℕ). Leads bytes (between e n) at (between (e + 1 + length es) m) stop) (let same : n + length qs + sum_by length es ≡ n + sum_by length (qs ∷ es) = omega (arith, sum) in same)
-    (Leads-trans bytes (between e n) (between (e + 1) (n + length qs)) (between (e + 1 + length es) (n + length qs + sum_by length es)) at are.0 stop (Leads-one bytes e n at are.0 qs (λ full. omega (arith, full, few)) (omega (arith, few_queries, sum)) are.1) (Leads-executors bytes (e + 1) (n + length qs) are.0 stop es (omega (arith, few)) (omega (arith, few_queries, sum)) are.2)))
+-- the lines and tokens of a text are in order
+module _ (in_order : LinesAreInOrder) where
+  pub lines_there : (bytes : List ℕ) (at : ℕ) → line_from bytes at < length bytes → Lines bytes at
+  lines_there bytes at lt =
+      let ts = (in_order false bytes).has_tokens (line_from bytes at) (omega arith) in
+      let more = (in_order false bytes).has_lines (line_below bytes (line_from bytes at)) (omega arith) in
+      record { tokens = ts.0; lines = more.0; are = (refl, lt, ts.1, more.1) }
+
+  pub Leads-word : (bytes : List ℕ) (seen : Seen) (at below : ℕ) (w : List ℕ) → IsNoQuery seen.part → IsWordLine w bytes at below → IsWelcome seen w → Leads bytes seen at (seen_word seen w) below
+  Leads-word bytes seen at below w own is welcome =
+      subst (λ (m : ℕ). Leads bytes seen at (seen_word seen w) m) (sym is.next)
+      (subst (λ (s : Seen). Leads bytes seen at s (line_below bytes start)) seen_is (clean_line in_order bytes seen at line refl lt are clean))
+    where
+      start : ℕ
+      start = line_from bytes at
+
+      t : PlainToken
+      t = token_at bytes start
+
+      u : PlainToken
+      u = second_at bytes start
+
+      line : PlainLine
+      line = record { start = start; tokens = t ∷ u ∷ [] }
+
+      lt : start < length bytes
+      lt = begins_before_end bytes start w is.begins
+
+      are : AreTokens false bytes start (t ∷ u ∷ [])
+      are =
+          let ts = (in_order false bytes).has_tokens start (omega (arith, lt)) in
+          subst (λ (vs : List PlainToken). AreTokens false bytes start vs) (two_tokens bytes start w ts.0 ts.1 is.begins is.ends) ts.1
+
+      seen_is : seen_below seen line ≡ seen_word seen w
+      seen_is = ap (λ (p : Piece). seen_below seen (record { start = start; tokens = record { from = t.from; to = t.to; piece = p } ∷ u ∷ [] })) is.begins ∙ ap (λ (p : Piece). seen_below seen (record { start = start; tokens = record { from = t.from; to = t.to; piece = word w } ∷ record { from = u.from; to = u.to; piece = p } ∷ [] })) is.ends
+
+      clean : (k : SessionKind) (p : ℕ) → StandsInLine seen line k p → ⊥
+      clean k p s =
+          let o = own_stands seen line (own (pieces line.tokens)) k p s in
+          elim (two_cases t u s.front s.after s.token s.in_line) [
+            | inl first ↦
+                welcome_clean seen w welcome k (subst (λ (q : Piece). OwnStands seen [] q k) (ap (λ (v : PlainToken). v.piece) first.1 ∙ is.begins) (subst (λ (vs : List PlainToken). OwnStands seen (pieces vs) s.token.piece k) first.0 o))
+            | inr second ↦
+                end_clean seen w welcome k (subst (λ (q : Piece). OwnStands seen (q ∷ []) line_end k) is.begins (subst (λ (q : Piece). OwnStands seen (t.piece ∷ []) q k) (ap (λ (v : PlainToken). v.piece) second.1 ∙ is.ends) (subst (λ (vs : List PlainToken). OwnStands seen (pieces vs) s.token.piece k) second.0 o)))
+          ]
+
+  -- the three words
+
+  pub Leads-executor : (bytes : List ℕ) (part : Part) (e n at below : ℕ) → IsNoQuery part → MayBegin part executor_word → (e ≡ 64 → ⊥) → IsWordLine executor_word bytes at below → Leads bytes (record { part = part; executors = e; queries = n }) at (asked (e + 1) n) below
+  unfolding executor_word query_word
+  Leads-executor bytes part e n at below own may few is =
+      subst (λ (m : ℕ). Leads bytes (record { part = part; executors = e; queries = n }) at (asked (e + 1) m) below) (let same : n + 0 ≡ n = omega arith in same)
+      (Leads-word bytes (record { part = part; executors = e; queries = n }) at below executor_word own is (record { may = may; few_executors = λ x full. few full; few_queries = λ x full. executor_not_query x }))
+
+  pub Leads-query_line : (bytes : List ℕ) (e n at below : ℕ) → (n ≡ 100000 → ⊥) → IsWordLine query_word bytes at below → Leads bytes (asked e n) at (in_query [] e (n + 1)) below
+  unfolding executor_word query_word
+  Leads-query_line bytes e n at below few is =
+      subst (λ (m : ℕ). Leads bytes (asked e n) at (in_query [] m (n + 1)) below) (let same : e + 0 ≡ e = omega arith in same)
+      (Leads-word bytes (asked e n) at below query_word (λ ps. refl) is (record { may = inr (inl refl); few_executors = λ x full. executor_not_query (sym x); few_queries = λ x full. few full }))
+
+  pub Leads-end : (bytes : List ℕ) (part : Part) (e n at below : ℕ) → IsNoQuery part → MayBegin part end_word → IsWordLine end_word bytes at below → Leads bytes (record { part = part; executors = e; queries = n }) at (behind_end e n) below
+  unfolding executor_word query_word end_word
+  Leads-end bytes part e n at below own may is =
+      subst (λ (m : ℕ). Leads bytes (record { part = part; executors = e; queries = n }) at (behind_end m n) below) (let same : e + 0 ≡ e = omega arith in same)
+      (subst (λ (m : ℕ). Leads bytes (record { part = part; executors = e; queries = n }) at (behind_end (e + 0) m) below) (let same : n + 0 ≡ n = omega arith in same)
+      (Leads-word bytes (record { part = part; executors = e; queries = n }) at below end_word own is (record { may = may; few_executors = λ x full. executor_not_end (sym x); few_queries = λ x full. query_not_end (sym x) })))
+
+-- the texts of queries are lawful
+module _ (laws : TextsAreLawful) where
+  -- queries, and executors
+
+  pub Leads-asked : (bytes : List ℕ) (e n at stop : ℕ) (q : PlainCondition) → (n ≡ 100000 → ⊥) → IsQuery bytes at q stop → Leads bytes (asked e n) at (asked e (n + 1)) stop
+  Leads-asked bytes e n at stop q few is =
+      Leads-trans bytes (asked e n) (in_query [] e (n + 1)) (asked e (n + 1)) at is.below stop (Leads-query_line laws.in_order bytes e n at is.below few is.line) (Leads-query laws bytes is.below q stop e (n + 1) is.spelled)
+
+  pub Leads-queries : (bytes : List ℕ) (e n at stop : ℕ) (qs : List PlainCondition) → n + length qs ≤ 100000 → AreQueries bytes at qs stop → Leads bytes (asked e n) at (asked e (n + length qs)) stop
+  Leads-queries bytes e n at stop [] few are =
+      subst (λ (m : ℕ). Leads bytes (asked e n) at (asked e m) stop) (let same : n ≡ n + 0 = omega arith in same)
+      (subst (λ (m : ℕ). Leads bytes (asked e n) at (asked e n) m) (sym are) (Leads-refl bytes (asked e n) at))
+  Leads-queries bytes e n at stop (q ∷ qs) few are =
+      subst (λ (m : ℕ). Leads bytes (asked e n) at (asked e m) stop) (let same : n + 1 + length qs ≡ n + suc (length qs) = omega arith in same)
+      (Leads-trans bytes (asked e n) (asked e (n + 1)) (asked e (n + 1 + length qs)) at are.0 stop (Leads-asked bytes e n at are.0 q (λ full. omega (arith, full, few)) are.1) (Leads-queries bytes e (n + 1) are.0 stop qs (omega (arith, few)) are.2))
+
+  pub Leads-one : (bytes : List ℕ) (e n at stop : ℕ) (qs : List PlainCondition) → (e ≡ 64 → ⊥) → n + length qs ≤ 100000 → IsExecutor bytes at qs stop → Leads bytes (between e n) at (between (e + 1) (n + length qs)) stop
+  Leads-one bytes e n at stop qs few few_queries is =
+      subst (λ (s : Seen). Leads bytes (between e n) at s stop) (between-some e (n + length qs))
+      (Leads-trans bytes (between e n) (asked (e + 1) n) (asked (e + 1) (n + length qs)) at is.below stop (Leads-executor laws.in_order bytes (part_after e) e n at is.below (between-no_query e) (between-executor e) few is.line) (Leads-queries bytes (e + 1) n is.below stop qs few_queries is.asked))
+
+  pub Leads-executors : (bytes : List ℕ) (e n at stop : ℕ) (es : List (List PlainCondition)) → e + length es ≤ 64 → n + sum_by length es ≤ 100000 → AreExecutors bytes at es stop → Leads bytes (between e n) at (between (e + length es) (n + sum_by length es)) stop
+  Leads-executors bytes e n at stop [] few few_queries are =
+      subst (λ (m : ℕ). Leads bytes (between e n) at (between m (n + 0)) stop) (let same : e ≡ e + 0 = omega arith in same)
+      (subst (λ (m : ℕ). Leads bytes (between e n) at (between e m) stop) (let same : n ≡ n + 0 = omega arith in same)
+      (subst (λ (m : ℕ). Leads bytes (between e n) at (between e n) m) (sym are) (Leads-refl bytes (between e n) at)))
+  Leads-executors bytes e n at stop (qs ∷ es) few few_queries are =
+      let sum : sum_by length (qs ∷ es) ≡ length qs + sum_by length es = sum_by-cons length qs es in
+      subst (λ (m : ℕ). Leads bytes (between e n) at (between m (n + sum_by length (qs ∷ es))) stop) (let same : e + 1 + length es ≡ e + suc (length es) = omega arith in same)
+      (subst (λ (m : ℕ). Leads bytes (between e n) at (between (e + 1 + length es) m) stop) (let same : n + length qs + sum_by length es ≡ n + sum_by length (qs ∷ es) = omega (arith, sum) in same)
+      (Leads-trans bytes (between e n) (between (e + 1) (n + length qs)) (between (e + 1 + length es) (n + length qs + sum_by length es)) at are.0 stop (Leads-one bytes e n at are.0 qs (λ full. omega (arith, full, few)) (omega (arith, few_queries, sum)) are.1) (Leads-executors bytes (e + 1) (n + length qs) are.0 stop es (omega (arith, few)) (omega (arith, few_queries, sum)) are.2)))

@@ -5,6 +5,7 @@ use Rattle.lin_text.specs.declared.fault.SessionKind.TheVariants.{NoEnd, Syntax}
 use Rattle.lin_text.specs.Lines.{is_skipped, first_line}
 use Rattle.lin_text.specs.Tokens.{token_from, token_here, token_length}
 use Rattle.lin_text.specs.Pieces.{word, plain_token, piece_of, name_piece}
+use Rattle.lin_text.specs.LineLaws.{LinesAreInOrder}
 use Rattle.session_text.specs.Words.{green_word, one_digit, executor_word, query_word, end_word, IsHeader}
 use Rattle.session_text.specs.Sessions.{SpellsSession}
 use Rattle.session_text.specs.Faults.{nothing_seen, HasFault}
@@ -34,8 +35,8 @@ unfolding first_line is_skipped token_from token_here token_length plain_token p
 check_no_end = whole_fault (codes "green 1\n") (record { green = refl; one = refl; ends = refl }) NoEnd 8 (no_end (codes "green 1\n") nothing_seen 8 refl (λ e. cc))
 
 -- a query before the first executor
-check_query_first : HasFault (codes "green 1\nquery\nend\n") Syntax 8
+check_query_first : LinesAreInOrder → HasFault (codes "green 1\nquery\nend\n") Syntax 8
 unfolding first_line is_skipped token_from token_here token_length plain_token piece_of name_piece green_word one_digit executor_word query_word end_word
-check_query_first =
+check_query_first in_order =
     whole_fault (codes "green 1\nquery\nend\n") (record { green = refl; one = refl; ends = refl }) Syntax 8
-    (first_refused (codes "green 1\nquery\nend\n") nothing_seen 8 (λ ps. refl) (omega arith) (cant_begin 0 (word (codes "query")) (λ e. executor_not_query (let same : codes "query" ≡ codes "executor" = cc in sym same)) (λ e. refl) (λ e. query_not_end (let same : codes "query" ≡ codes "end" = cc in same))))
+    (first_refused in_order (codes "green 1\nquery\nend\n") nothing_seen 8 (λ ps. refl) (omega arith) (cant_begin 0 (word (codes "query")) (λ e. executor_not_query (let same : codes "query" ≡ codes "executor" = cc in sym same)) (λ e. refl) (λ e. query_not_end (let same : codes "query" ≡ codes "end" = cc in same))))

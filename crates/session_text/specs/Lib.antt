@@ -6,3 +6,4 @@ pub mod Spelling
 pub mod Laws
 pub mod Classes
 pub mod Reading
+pub mod Lawful

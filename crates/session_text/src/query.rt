@@ -9,10 +9,11 @@ ghost use Rattle.session_text.specs.Faults.{executor, query};
 ghost use Rattle.session_text.specs.Reading.{IsReadError, seen_with};
 
 use crate::class::{Class, next_lexeme};
+use crate::laws::texts_are_lawful;
 use crate::line::{below_word, line_at};
 use crate::refusal::{Counts, Fault, ReadError, fault_at, refusal, session_kind};
 use lin_model::{Condition, MAX_QUERIES, Script};
-use lin_text::{SessionKind, TextKind, read_lines};
+use lin_text::{SessionKind, TextKind, lines_are_in_order, read_lines, words_stand_in_no_line};
 use std::alloc::Global;
 
 /// A fault of a query's text, as a fault of the session's. Where a token can't come, it may be the word
@@ -40,6 +41,8 @@ fn read_body(
     ensures starts { IfOk result (λ r. StartsLine bytes.now r.1) }
     ensures fault { IfErr result (IsReadError (seen_with (query []) counts) bytes.now at) }
 {
+    lines_are_in_order();
+    words_stand_in_no_line();
     match read_lines(alloc, bytes, false, at) {
         Ok(read) => Ok(read),
         Err(lin_text::ReadError::Memory) => Err(ReadError::Memory),
@@ -65,6 +68,7 @@ fn read_query(
     ensures starts { IfOk result (λ r. StartsLine bytes.now r.1) }
     ensures fault { IfErr result (IsReadError (seen_with executor counts) bytes.now at) }
 {
+    lines_are_in_order();
     let line = line_at(bytes, at);
     if counts.queries == MAX_QUERIES {
         return Err(ReadError::Fault(fault_at(SessionKind::TooManyQueries, line.first.from)));
@@ -98,6 +102,7 @@ pub fn read_script(
     ensures ends { IfOk result (λ r. ¬ BeginsWith query_word bytes.now r.1) }
     ensures fault { IfErr result (IsReadError (seen_with executor counts) bytes.now start) }
 {
+    texts_are_lawful();
     let mut queries = Vec::new(alloc);
     let mut so_far = counts;
     let mut at = start;

@@ -9,11 +9,14 @@ ghost use Rattle.session_text.specs.Answers.{IsFault};
 ghost use Rattle.session_text.specs.Reading.{IsFaultFrom, IsReadError, IsSessionError, seen_with, seen_between};
 
 use crate::class::{Class, next_lexeme};
+use crate::laws::texts_are_lawful;
 use crate::line::{below_word, is_header, line_at};
 use crate::query::{begins_with, read_script};
 use crate::refusal::{Counts, Fault, ReadError, fault_at, refusal};
 use lin_model::{MAX_EXECUTORS, Script, Session};
-use lin_text::{SessionFault, SessionKind, column, line_below, line_number, next_line};
+use lin_text::{
+    SessionFault, SessionKind, column, line_below, line_number, lines_are_in_order, next_line,
+};
 use std::alloc::Global;
 
 /// Reads an executor line and its queries, from the first line on that isn't skipped, which begins with the
@@ -35,6 +38,7 @@ fn read_executor(
     ensures ends { IfOk result (λ r. ¬ BeginsWith query_word bytes.now r.1) }
     ensures fault { IfErr result (IsReadError (seen_between counts) bytes.now at) }
 {
+    lines_are_in_order();
     let line = line_at(bytes, at);
     if counts.executors == MAX_EXECUTORS {
         return Err(ReadError::Fault(fault_at(SessionKind::TooManyExecutors, line.first.from)));
@@ -67,6 +71,7 @@ fn read_executors(alloc: Global, bytes: &[u8], start: usize) -> Result<Executors
     ensures no_query { IfOk result (λ r. BeginsWith query_word bytes.now r.stop → r.counts.executors ≡ 0) }
     ensures fault { IfErr result (IsReadError nothing_seen bytes.now start) }
 {
+    texts_are_lawful();
     let mut scripts = Vec::new(alloc);
     let mut counts = Counts {
         executors: 0,
@@ -102,6 +107,7 @@ fn read_end(bytes: &[u8], at: usize, counts: Counts) -> Result<(), Fault>
     ensures read { OnOk result (IsEnd bytes.now at) }
     ensures fault { IfErr result (IsFaultFrom (seen_between counts) bytes.now at) }
 {
+    lines_are_in_order();
     let line = line_at(bytes, at);
     if line.start == bytes.len() {
         return Err(fault_at(SessionKind::NoEnd, bytes.len()));
@@ -119,6 +125,7 @@ fn read_rest(bytes: &[u8], at: usize, counts: Counts) -> Result<(), Fault>
     ensures read { OnOk result (line_from bytes.now at ≡ length bytes.now) }
     ensures fault { IfErr result (IsFaultFrom (seen_with ended counts) bytes.now at) }
 {
+    lines_are_in_order();
     let line = line_at(bytes, at);
     if line.start == bytes.len() {
         Ok(())
@@ -132,6 +139,7 @@ fn read_whole(alloc: Global, bytes: &[u8]) -> Result<Session, ReadError>
     ensures read { IfOk result (SpellsSession bytes.now) }
     ensures fault { IfErr result (IsSessionError bytes.now) }
 {
+    texts_are_lawful();
     let first = next_line(bytes, 0);
     if !is_header(bytes, first) {
         return Err(ReadError::Fault(fault_at(

@@ -3,13 +3,12 @@ use Rattle.std.proofs.Common.{◌≡◌, ℕ, zero, suc, List, [], ◌∷◌, Op
 use Rattle.std.specs.Prelude.{Any, Contains, IsSomeAnd, slice_get}
 use Rattle.std.proofs.lemmas.Bool.{cases_eq}
 use Rattle.lin_model.specs.declared.atom.Atom.{Atom}
+use Rattle.lin_model.specs.Lists.{Contains-cases, Contains-first, Contains-later, nothing_in_nil, Found-from, IsSomeAnd-found}
 use Rattle.slicer.specs.Linked.{Chain, alone, longer}
 use Rattle.slicer.specs.Names.{Names, NamesAt, NamesNothingAt, atom_vars}
 use Rattle.slicer.specs.Slices.{PlainSlice}
 use Rattle.slicer.proofs.ChainLemmas.{Beside, kept_along, Chain-append, Chain-over}
-use Rattle.slicer.proofs.ElementLemmas.{Contains-cases, Contains-first, Contains-later, nothing_in_nil}
 use Rattle.slicer.proofs.ClassLemmas.{InSome}
-use Rattle.slicer.proofs.Lookups.{Found-from, IsSomeAnd-found}
 
 -- it holds or it doesn't
 abbrev pub IsDecided : Type 0 → Type 0

@@ -2,6 +2,7 @@
 use Rattle.std.proofs.Common.{◌≡◌, ℕ, ◌+◌, ◌<◌, ◌≤◌, zero, suc, List, [], ◌∷◌, ◌++◌, length, inl, inr, refl, arith, subst}
 use Rattle.std.proofs.lemmas.Bool.{cases_lt}
 use Rattle.lin_model.specs.Conditions.{PlainCondition}
+use Rattle.lin_model.specs.Lists.{within_from_IsSomeAnd}
 use Rattle.slicer.specs.Linked.{Linked}
 use Rattle.slicer.specs.Names.{Names, NamesAt, NamesNothingAt, atom_vars}
 use Rattle.slicer.specs.Slices.{PlainSlice, Lists, IsSliceOf, IsFront}
@@ -10,7 +11,6 @@ use Rattle.slicer.proofs.ClassLemmas.{InSome, InSome-push, AreClassesBelow, AreC
 use Rattle.slicer.proofs.DecisionLemmas.{IsDecided, InSome-decided, Chain-decided, NamesNothingAt-decided, NamesOneAt-decided}
 use Rattle.slicer.proofs.FrontLemmas.{IsFront-none, IsFront-one}
 use Rattle.slicer.proofs.ListsLemmas.{Below, Lists-none, Lists-kept, Lists-skipped, Lists-same}
-use Rattle.slicer.proofs.Lookups.{within_from_IsSomeAnd}
 
 -- the numbers below a count of which something holds, and a proof that they are these
 record Listed (P : ℕ → Type 0) (count : ℕ) : Type 0 where

@@ -1,7 +1,4 @@
 mod Bits
-pub mod ElementLemmas
-pub mod OrderedLemmas
-pub mod Lookups
 mod ChainLemmas
 mod NamedLemmas
 mod SpreadLemmas

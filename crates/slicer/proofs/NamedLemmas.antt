@@ -10,7 +10,7 @@ use Rattle.std.proofs.lemmas.List.Elements.{Contains-append_left, Contains-push,
 use Rattle.lin_model.specs.Terms.{PlainTerm}
 use Rattle.lin_model.specs.Conditions.{AtomNamesBelow}
 use Rattle.lin_model.specs.declared.atom.Atom.{Atom}
-use Rattle.lin_model.proofs.NamesLemmas.{AtomNamesBelow-larger}
+use Rattle.lin_model.specs.Facts.{AtomNamesBelow-larger}
 use Rattle.slicer.specs.declared.var_set.VarSet.{VarSet}
 use Rattle.slicer.specs.Names.{side_vars}
 use Rattle.slicer.specs.VarSets.{IsSetOf}

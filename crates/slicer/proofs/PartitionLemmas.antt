@@ -9,13 +9,12 @@ use Rattle.std.proofs.lemmas.List.Kept.{AllPairs-cons}
 use Rattle.lin_model.specs.Terms.{PlainTerm}
 use Rattle.lin_model.specs.Conditions.{PlainCondition, NamesBelow, AtomNamesBelow}
 use Rattle.lin_model.specs.declared.atom.Atom.{Atom}
+use Rattle.lin_model.specs.Lists.{Found-at, Found-from, IsSomeAnd-found, Contains-cases, nothing_in_nil}
 use Rattle.slicer.specs.Linked.{longer}
 use Rattle.slicer.specs.Names.{Names, NamesAt, NamesNothingAt, NamesDeclared, side_vars, atom_vars}
 use Rattle.slicer.specs.Slices.{PlainSlice, IsSliceOf, AreClasses, IsVariableFree, IsFront, least}
 use Rattle.slicer.specs.Laws.{AreApart, HasNamed, SlicesPartition}
 use Rattle.slicer.proofs.ChainLemmas.{Chain-append, Chain-turned}
-use Rattle.slicer.proofs.Lookups.{Found-at, Found-from, IsSomeAnd-found}
-use Rattle.slicer.proofs.ElementLemmas.{Contains-cases, nothing_in_nil}
 use Rattle.slicer.proofs.UniqueLemmas.{least_is_same}
 
 -- a side names only what is in range

@@ -6,13 +6,12 @@ use Rattle.std.proofs.lemmas.Option.{get_or_from_slice_get, slice_get_within}
 use Rattle.std.proofs.lemmas.List.{get_or_default}
 use Rattle.lin_model.specs.Conditions.{PlainCondition}
 use Rattle.lin_model.specs.declared.atom.Atom.{Atom}
+use Rattle.lin_model.specs.Lists.{nil_from_none, nothing_in_nil, Found-at, Found-from, IsSomeAnd-found}
 use Rattle.slicer.specs.declared.var_set.VarSet.{VarSet}
 use Rattle.slicer.specs.Names.{Names, NamesAt, NamesNothingAt, atom_vars}
 use Rattle.slicer.specs.Linked.{Chain, Linked}
 use Rattle.slicer.specs.VarSets.{Has, Meet, IsVoid, AreSetsOf}
 use Rattle.slicer.proofs.ChainLemmas.{Chain-over}
-use Rattle.slicer.proofs.ElementLemmas.{nil_from_none, nothing_in_nil}
-use Rattle.slicer.proofs.Lookups.{Found-at, Found-from, IsSomeAnd-found}
 
 abbrev empty : VarSet
 empty = record { bits = 0 }

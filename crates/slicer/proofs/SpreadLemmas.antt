@@ -1,7 +1,8 @@
 -- What is reached as more sets are taken in, and when nothing more comes.
 use Rattle.std.proofs.Common.{◌≡◌, ℕ, ◌+◌, ◌<◌, ◌≤◌, List, length, get_or, ◌⊎◌, inl, inr, arith, sym, subst}
 use Rattle.std.specs.Prelude.{All}
-use Rattle.lin_model.proofs.Elements.{all_more}
+use Rattle.std.proofs.lemmas.List.Elements.{at_read}
+use borrow.Author.Count.{below_more}
 use Rattle.slicer.specs.declared.var_set.VarSet.{VarSet}
 use Rattle.slicer.specs.Linked.{alone, longer}
 use Rattle.slicer.specs.VarSets.{Has, Meet, Includes, IsReached}
@@ -23,8 +24,8 @@ IsAbsorbed-none sets reached = record {
 }
 
 pub IsAbsorbed-more : (sets : List VarSet) (reached : VarSet) (i : ℕ) (next set result : VarSet) → i < length sets → set ≡ get_or sets i set → IsAbsorbed sets reached i next → (Meet set next → Includes set result) → ((v : ℕ) → Has result v → Has next v ⊎ (Meet set next × Has set v)) → Includes next result → next.bits ≤ result.bits → IsAbsorbed sets reached (i + 1) result
-IsAbsorbed-more sets reached i next set result within is so_far takes only keeps larger = record {
-  all = all_more (λ (x : VarSet). Meet x reached → Includes x result) sets i set within is (λ k d lt meet v has. keeps v (so_far.all k d lt meet v has)) (λ meet. takes (meet.0, meet.1, so_far.keeps meet.0 meet.2));
+IsAbsorbed-more sets reached i next set result within is so_far takes only keeps larger = let TakesIn = λ (x : VarSet). Meet x reached → Includes x result in record {
+  all = λ k d lt. below_more (λ (j : ℕ). TakesIn (get_or sets j d)) i (λ j l meet v has. keeps v (so_far.all j d l meet v has)) (at_read sets TakesIn i set within is (λ meet. takes (meet.0, meet.1, so_far.keeps meet.0 meet.2)) d) k lt;
   only = λ v has. elim (only v has) [
     | inl earlier ↦ so_far.only v earlier
     | inr both ↦ (

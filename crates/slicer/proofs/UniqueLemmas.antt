@@ -3,13 +3,13 @@ use Rattle.std.proofs.Common.{◌≡◌, ℕ, ◌<◌, List, [], ◌∷◌, ◌+
 use Rattle.std.specs.Prelude.{Contains}
 use Rattle.std.proofs.lemmas.List.Elements.{Contains-get_or}
 use Rattle.lin_model.specs.Conditions.{PlainCondition}
+use Rattle.lin_model.specs.Ordered.{same_from_in_order}
 use Rattle.slicer.specs.Linked.{Linked}
 use Rattle.slicer.specs.Names.{Names, NamesNothingAt}
 use Rattle.slicer.specs.Slices.{PlainSlice, Lists, IsSliceOf, AreClasses, IsFront, least}
 use Rattle.slicer.specs.Laws.{SlicesAreUnique}
 use Rattle.slicer.proofs.ChainLemmas.{Chain-turned}
 use Rattle.slicer.proofs.ClassLemmas.{first_of_ascending}
-use Rattle.slicer.proofs.OrderedLemmas.{same_from_in_order}
 
 pub Lists-unique : (P : ℕ → Type 0) (xs ys : List ℕ) → Lists P xs → Lists P ys → xs ≡ ys
 Lists-unique P xs ys a b =

@@ -34,7 +34,7 @@ returns-clause-at c = λ base splits h.
     let within = c.bounds.ensures.bounds b.0 b.1 first in
     let within_2 = c.bounds-2.ensures.bounds b.0 b.1 first in
     let is : cut ≡ middle b.0.bounds v = to_z-of_z w64 c.middle-cut.result fits ∙ c.middle-cut.ensures ∙ ap (λ (d : PlainBounds). middle d v) within_2 in
-    IfOk-weaker c.split.result (λ _. c.split.new.self ≡ left_half b.0 v cut ∷ right_half b.0 v cut ∷ b.1) (λ _. IsAt c.args.key.now base c.push_node.new.self (splits + 1) c.split.new.self × (length c.split.new.self ≡ length c.args.walk.now + 1)) (λ _ halves. at-split c.args.key.now base c.args.region.now c.push_node.new.self splits c.args.walk.now c.split.new.self b.0 b.1 v cut first b.4 (widest-of c.bounds.result.now b.0.bounds c.width.result _ v c.widest-var.ensures within c.width.ensures.width) is halves (c.in_ok-push_node.ensures {u = tt}) h) (c.split.ensures b.0 b.1 first)
+    IfOk-weaker c.split.result (λ _. c.split.new.self ≡ left_half b.0 v cut ∷ right_half b.0 v cut ∷ b.1) (λ _. IsAt c.args.key.now base c.push_node.new.self (splits + 1) c.split.new.self × (length c.split.new.self ≡ length c.args.walk.now + 1)) (λ _ halves. at-split c.cuts_leave_proper_halves.ensures c.args.key.now base c.args.region.now c.push_node.new.self splits c.args.walk.now c.split.new.self b.0 b.1 v cut first b.4 (widest-of c.bounds.result.now b.0.bounds c.width.result _ v c.widest-var.ensures within c.width.ensures.width) is halves (c.in_ok-push_node.ensures {u = tt}) h) (c.split.ensures b.0 b.1 first)
 
 pub returns-clause-halving : goal.returns-clause-halving
 returns-clause-halving c = λ box rest first.

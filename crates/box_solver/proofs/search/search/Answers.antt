@@ -1,14 +1,14 @@
 use Rattle.std.proofs.Common.{◌≡◌, true, [], ◌∷◌, ◌++◌, length, replicate, ap, sym, ◌∙◌, subst, arith}
 use Rattle.lin_model.specs.Key.{KeyHolds}
 use Rattle.lin_model.specs.Point.{IsPoint}
+use Rattle.lin_model.specs.Lists.{some_there, none_there}
+use Rattle.lin_model.specs.Facts.{key-narrow}
 use Rattle.refutation.specs.declared.node.Node.TheVariants.{Empty, Left}
 use Rattle.refutation.specs.Bounds.{PlainBounds}
 use Rattle.refutation.specs.Box.{root_box}
 use Rattle.refutation.specs.Boxed.{HasShortSides}
 use Rattle.refutation.specs.SearchOrder.{lowest_corner}
-use Rattle.refutation.proofs.ReadingLemmas.{some_box, no_box}
 use Rattle.box_solver.specs.Progress.{IsAt}
-use Rattle.refutation.proofs.BoundedLemmas.{key-narrow}
 use Rattle.box_solver.proofs.CornerLemmas.{corner-length}
 use Rattle.box_solver.proofs.RegionLemmas.{grows-pushed, adds-adds}
 use Rattle.box_solver.proofs.StateLemmas.{at-start, first-fits, first-split, is_undecided}
@@ -34,14 +34,14 @@ loop-alloc-init c = record {
 
 pub loop-alloc-smaller-in-Continue-branch-2 : goal.loop-alloc-smaller-in-Continue-branch-2
 loop-alloc-smaller-in-Continue-branch-2 c =
-    let b = some_box c.loop-alloc.walk c.is_open.result c.is_open.ensures c.loop-alloc-test.true in
+    let b = some_there c.loop-alloc.walk c.is_open.result c.is_open.ensures c.loop-alloc-test.true in
     let closed = c.in_ok-close_by-in-Some.ensures {u = tt} in
     let next = (closed.at c.args.key.now c.args.region.now c.loop-alloc.splits b.0 b.1 b.2 (c.in-Some.ensures b.0 b.1 b.2) c.loop-alloc.invariant.at).1 in
     omega (arith, ap length b.2, ap length next)
 
 pub loop-alloc-preserved-in-Continue-branch-2 : goal.loop-alloc-preserved-in-Continue-branch-2
 loop-alloc-preserved-in-Continue-branch-2 c =
-    let b = some_box c.loop-alloc.walk c.is_open.result c.is_open.ensures c.loop-alloc-test.true in
+    let b = some_there c.loop-alloc.walk c.is_open.result c.is_open.ensures c.loop-alloc-test.true in
     let closed = c.in_ok-close_by-in-Some.ensures {u = tt} in
     record {
       at = (closed.at c.args.key.now c.args.region.now c.loop-alloc.splits b.0 b.1 b.2 (c.in-Some.ensures b.0 b.1 b.2) c.loop-alloc.invariant.at).0;
@@ -50,7 +50,7 @@ loop-alloc-preserved-in-Continue-branch-2 c =
 
 pub lowest_corner-requires : goal.lowest_corner-requires
 lowest_corner-requires c =
-    let b = some_box c.loop-alloc.walk c.is_open.result c.is_open.ensures c.loop-alloc-test.true in
+    let b = some_there c.loop-alloc.walk c.is_open.result c.is_open.ensures c.loop-alloc-test.true in
     let s = first-fits c.args.key.now c.args.region.now c.loop-alloc.region c.loop-alloc.splits c.loop-alloc.walk b.0 b.1 b.2 c.loop-alloc.invariant.at in
     subst HasShortSides (sym (c.bounds.ensures.bounds b.0 b.1 b.2)) s.short
 
@@ -61,7 +61,7 @@ holds-requires c =
 
 pub returns-then-holds-clause-found : goal.returns-then-holds-clause-found
 returns-then-holds-clause-found c =
-    let b = some_box c.loop-alloc.walk c.is_open.result c.is_open.ensures c.loop-alloc-test.true in
+    let b = some_there c.loop-alloc.walk c.is_open.result c.is_open.ensures c.loop-alloc-test.true in
     let at = c.loop-alloc.invariant.at in
     let point = c.in_ok-corner-in-None.corner in
     let corner = c.in_ok-corner-in-None.ensures {u = tt} ∙ ap (λ (d : PlainBounds). lowest_corner c.args.key.now d) (c.bounds.ensures.bounds b.0 b.1 b.2) in
@@ -75,12 +75,12 @@ returns-then-holds-clause-found c =
 
 pub returns-then-splits-budget-clause-found : goal.returns-then-splits-budget-clause-found
 returns-then-splits-budget-clause-found c =
-    let b = some_box c.loop-alloc.walk c.is_open.result c.is_open.ensures c.loop-alloc-test.true in
+    let b = some_there c.loop-alloc.walk c.is_open.result c.is_open.ensures c.loop-alloc-test.true in
     let at = c.loop-alloc.invariant.at in
     let s = first-fits c.args.key.now c.args.region.now c.loop-alloc.region c.loop-alloc.splits c.loop-alloc.walk b.0 b.1 b.2 at in
     let corner = c.in_ok-corner-in-None.ensures {u = tt} ∙ ap (λ (d : PlainBounds). lowest_corner c.args.key.now d) (c.bounds.ensures.bounds b.0 b.1 b.2) in
     let test = c.if-holds.false in
-    let undecided = is_undecided c.args.key.now b.0 s (c.in-None.ensures b.0 b.1 b.2) (λ holds. let yes' : c.holds.result ≡ true = c.holds.ensures.1 (subst (KeyHolds c.args.key.now) (sym corner) holds) in absurd (cc)) in
+    let undecided = is_undecided c.closed_by_atoms_of_the_key.ensures c.args.key.now b.0 s (c.in-None.ensures b.0 b.1 b.2) (λ holds. let yes' : c.holds.result ≡ true = c.holds.ensures.1 (subst (KeyHolds c.args.key.now) (sym corner) holds) in absurd (cc)) in
     record {
       nodes = at.nodes ++ replicate (length c.loop-alloc.walk) Left;
       terms = at.terms ++ [];
@@ -90,12 +90,12 @@ returns-then-splits-budget-clause-found c =
 
 pub halve-requires : goal.halve-requires
 halve-requires c =
-    let b = some_box c.loop-alloc.walk c.is_open.result c.is_open.ensures c.loop-alloc-test.true in
+    let b = some_there c.loop-alloc.walk c.is_open.result c.is_open.ensures c.loop-alloc-test.true in
     let at = c.loop-alloc.invariant.at in
     let s = first-fits c.args.key.now c.args.region.now c.loop-alloc.region c.loop-alloc.splits c.loop-alloc.walk b.0 b.1 b.2 at in
     let corner = c.in_ok-corner-in-None.ensures {u = tt} ∙ ap (λ (d : PlainBounds). lowest_corner c.args.key.now d) (c.bounds.ensures.bounds b.0 b.1 b.2) in
     let test = c.if-holds.false in
-    let undecided = is_undecided c.args.key.now b.0 s (c.in-None.ensures b.0 b.1 b.2) (λ holds. let yes' : c.holds.result ≡ true = c.holds.ensures.1 (subst (KeyHolds c.args.key.now) (sym corner) holds) in absurd (cc)) in
+    let undecided = is_undecided c.closed_by_atoms_of_the_key.ensures c.args.key.now b.0 s (c.in-None.ensures b.0 b.1 b.2) (λ holds. let yes' : c.holds.result ≡ true = c.holds.ensures.1 (subst (KeyHolds c.args.key.now) (sym corner) holds) in absurd (cc)) in
     first-split c.args.key.now c.loop-alloc.walk b.0 b.1 b.2 s undecided
 
 pub loop-alloc-smaller : goal.loop-alloc-smaller
@@ -107,7 +107,7 @@ loop-alloc-smaller c =
 pub returns-clause-found : goal.returns-clause-found
 returns-clause-found c =
     let at = c.loop-alloc.invariant.at in
-    let none = no_box c.loop-alloc.walk c.is_open.result c.is_open.ensures c.loop-alloc-test.false in
+    let none = none_there c.loop-alloc.walk c.is_open.result c.is_open.ensures c.loop-alloc-test.false in
     record {
       nodes = at.nodes;
       terms = at.terms;

@@ -10,7 +10,7 @@ use Rattle.canoniser.proofs.StrongestLemmas.{StandTogether-sorted, Ascends-part,
 use Rattle.canoniser.proofs.strongest.strongest.Goals as goal
 
 pub unimplied-requires-clause-together : goal.unimplied-requires-clause-together
-unimplied-requires-clause-together c = StandTogether-sorted c.sorted-sorted.result.items c.sorted-sorted.ensures.sorted
+unimplied-requires-clause-together c = StandTogether-sorted c.order_is_total.ensures c.sorted-sorted.result.items c.sorted-sorted.ensures.sorted
 
 pub unreachable-requires : goal.unreachable-requires
 unreachable-requires c =
@@ -19,7 +19,7 @@ unreachable-requires c =
     let same = length_permutation c.args.atoms.items sorted c.sorted-sorted.ensures.permutation in
     let fewer = length-part kept sorted c.in_ok-kept.ensures.part in
     let fits : FitsKey kept = record {
-      ascends = Ascends-part kept sorted c.in_ok-kept.ensures.part c.sorted-sorted.ensures.sorted c.in_ok-kept.ensures.apart;
+      ascends = Ascends-part c.order_is_total.ensures kept sorted c.in_ok-kept.ensures.part c.sorted-sorted.ensures.sorted c.in_ok-kept.ensures.apart;
       few = omega arith;
     } in
     let no_more = c.in-Err.ensures.fits.1 fits in

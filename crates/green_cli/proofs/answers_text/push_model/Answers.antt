@@ -1,8 +1,8 @@
 use Rattle.std.proofs.Common.{◌≡◌, ◌++◌, drop, rules, w64}
 use mir.Val.{SFits}
 use Rattle.std.proofs.lemmas.Int.{to_z-of_z}
-use Rattle.green_cli.specs.AnswersText.{value_text}
 use Rattle.std.proofs.lemmas.List.{drop_all}
+use Rattle.green_cli.specs.AnswersText.{value_text}
 use Rattle.green_cli.proofs.TextLemmas.{carry, done, model_step, model_done, model_end}
 use Rattle.green_cli.proofs.answers_text.push_model.Goals as goal
 

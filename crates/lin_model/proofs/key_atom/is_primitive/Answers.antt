@@ -1,6 +1,6 @@
 use Rattle.std.proofs.Common.{eq-eqb, subst, eqb-true}
 use Rattle.lin_model.specs.Form.{IsGcdOf}
-use Rattle.lin_model.proofs.FormLemmas.{same_from_IsGcdOf}
+use Rattle.lin_model.specs.Facts.{same_from_IsGcdOf}
 use Rattle.lin_model.proofs.key_atom.is_primitive.Goals as goal
 
 pub returns : goal.returns

@@ -1,5 +1,6 @@
 use Rattle.std.proofs.Common.{arith, ◌∙◌, sym}
-use Rattle.lin_text.proofs.LineLemmas.{line_from-below, line_from-end, line_from-here}
+use Rattle.lin_text.specs.Facts.{line_from-end, line_from-here}
+use Rattle.lin_text.proofs.LineLemmas.{line_from-below}
 use Rattle.lin_text.proofs.lines.first_line.Goals as goal
 
 pub loop-start-preserved : goal.loop-start-preserved

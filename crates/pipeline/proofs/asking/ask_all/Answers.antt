@@ -1,6 +1,7 @@
 use Rattle.std.proofs.Common.{◌≡◌, ℕ, ◌<◌, ℤ, Some, List, length, take, arith, refl, subst, sym, ap, ◌∙◌, rules, Vec, Global}
 use Rattle.std.specs.List.{All, Contains, slice_index}
 use Rattle.std.proofs.lemmas.List.{take_all, length-take-le}
+use Rattle.std.proofs.lemmas.Slice.Zip.{AllZip-long}
 use Rattle.lin_model.specs.Terms.{value_at}
 use Rattle.pipeline.specs.declared.slice_keys.SliceKey.{SliceKey}
 use Rattle.pipeline.specs.declared.answer.PlainPart.{PlainPart}
@@ -9,7 +10,6 @@ use Rattle.pipeline.specs.declared.answer.Told.TheVariants.{Sat, UnsatSlice}
 use Rattle.pipeline.specs.Answers.{IsModelOf, IsRefuted, IsSpentOn, IsRightAnswer, Replies}
 use Rattle.pipeline.proofs.KeyedLemmas.{front_more}
 use Rattle.pipeline.proofs.AskLemmas.{none_left, ask_model, ask_open, few_classes, asked_as, none_if, refilled}
-use Rattle.std.proofs.lemmas.Slice.Zip.{AllZip-long}
 use Rattle.pipeline.proofs.ClassLemmas.{keyed, others, declared_at}
 use Rattle.pipeline.proofs.VerdictLemmas.{right_unsat, right_unknown, right_sat}
 use Rattle.pipeline.proofs.asking.ask_all.Goals.{in-Model+in_ok-push-in-Model, in-Spent+in_ok-push-in-Spent}

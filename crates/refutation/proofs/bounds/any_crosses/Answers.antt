@@ -1,5 +1,6 @@
 use Rattle.std.proofs.Common.{sym, ◌∙◌, arith}
-use Rattle.refutation.proofs.BoundsLemmas.{is_empty-true, is_empty-false}
+use Rattle.refutation.specs.Facts.{is_empty-true}
+use Rattle.refutation.proofs.BoundsLemmas.{is_empty-false}
 use Rattle.refutation.proofs.bounds.any_crosses.Goals as goal
 
 pub returns-then-crosses : goal.returns-then-crosses

@@ -1,5 +1,7 @@
-use Rattle.std.proofs.Common.{◌≡◌, ◌<◌, ap, sym, ◌∙◌, subst, take, length, false, arith, Option, List, eqb-true}
+use Rattle.std.proofs.Common.{◌≡◌, ◌<◌, ap, sym, ◌∙◌, subst, take, length, false, arith, Option, List, eqb-true, ℕ, pos}
 use Rattle.std.specs.Option.{option_map_or}
+use Rattle.std.proofs.Math.Seq.{take-length}
+use Rattle.std.proofs.lemmas.Bool.Decides.{nat_tests}
 use Rattle.refutation.specs.declared.leaf.LeafTerm.{LeafTerm}
 use Rattle.refutation.specs.declared.leaf.On.TheVariants.{Atom as OnAtom}
 use Rattle.refutation.specs.Box.{PlainBox}
@@ -7,9 +9,6 @@ use Rattle.refutation.specs.Leaf.{Multiple, is_positive_sum}
 use Rattle.refutation.proofs.LeafLemmas.{IsSummed, IsSummed-more, IsSummed-positive, multiples_of-fails, combo_closes-empty, combo_closes-long, combo_closes-is}
 use Rattle.refutation.proofs.closing.combo_closes.Goals as goal
 use Rattle.refutation.proofs.closing.combo_closes.Goals.{then-is_empty-via-then-is_empty, then-is_empty-via-else-is_empty+then-terms-gt8}
-use Rattle.std.proofs.Common.{ℕ, pos}
-use Rattle.std.proofs.Math.Seq.{take-length}
-use Rattle.std.proofs.lemmas.Bool.Decides.{nat_tests}
 
 abbrev no_term : LeafTerm
 no_term = record { on = OnAtom 0; factor = pos 0 }

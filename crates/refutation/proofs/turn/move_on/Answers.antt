@@ -1,7 +1,7 @@
 use Rattle.std.proofs.Common.{arith, subst}
+use Rattle.std.proofs.lemmas.Int.{ints}
 use Rattle.refutation.specs.Walk.{IsTurn}
 use Rattle.refutation.specs.declared.turn.Turn.TheVariants.{SplitLeft}
-use Rattle.std.proofs.lemmas.Int.{ints}
 use Rattle.refutation.proofs.WalkLemmas.{split-MovesOn}
 use Rattle.refutation.proofs.turn.move_on.Goals as goal
 

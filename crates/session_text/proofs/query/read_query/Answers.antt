@@ -7,18 +7,18 @@ use Rattle.session_text.specs.Words.{token_at, second_at, query_word, IsWordLine
 use Rattle.session_text.specs.Classes.{class_of, refusal_kind}
 use Rattle.session_text.specs.Faults.{executor, query}
 use Rattle.session_text.specs.Reading.{seen_with}
+use Rattle.session_text.specs.declared.refusal.ReadError.TheVariants as errors
 use Rattle.session_text.proofs.FirstFaults.{Leads}
 use Rattle.session_text.proofs.WordLines.{Leads-query_line}
 use Rattle.session_text.proofs.Wholes.{too_many_queries}
 use Rattle.session_text.proofs.Steps.{fault_is, handed_on, handed_up, second_query}
-use Rattle.session_text.specs.declared.refusal.ReadError.TheVariants as errors
 use Rattle.session_text.proofs.query.read_query.Goals as goal
 
 pub returns-then-counts-eq-MAX_QUERIES-clause-fault : goal.returns-then-counts-eq-MAX_QUERIES-clause-fault
 returns-then-counts-eq-MAX_QUERIES-clause-fault c =
     fault_is c.fault_at.result c.args.bytes.now (seen_with executor c.args.counts) c.args.at TooManyQueries (token_at c.args.bytes.now (line_from c.args.bytes.now c.args.at)).from
     (ap (λ (f : Fault). f.kind) c.fault_at.ensures) (ap (λ (f : Fault). f.at) c.fault_at.ensures ∙ c.line_at-line.ensures.from)
-    (too_many_queries c.args.bytes.now (seen_with executor c.args.counts) c.args.at (λ ps. refl) c.requires.begins c.if-counts-eq-MAX_QUERIES.true)
+    (too_many_queries c.lines_are_in_order.ensures c.args.bytes.now (seen_with executor c.args.counts) c.args.at (λ ps. refl) c.requires.begins c.if-counts-eq-MAX_QUERIES.true)
 
 pub returns-in_err-below-clause-fault : goal.returns-in_err-below-clause-fault
 returns-in_err-below-clause-fault c =
@@ -26,7 +26,7 @@ returns-in_err-below-clause-fault c =
     let f = c.in_err-below.field-0.0 in
     let is = c.in_err-below.ensures {u = tt} in
     let start = c.line_at-line.ensures.start in
-    let second = second_query bytes c.args.counts.executors c.args.counts.queries c.args.at c.requires.begins (λ full. c.if-counts-eq-MAX_QUERIES.false full) (λ end. is.goes_on (ap (λ (m : ℕ). (second_at bytes m).piece) start ∙ end)) in
+    let second = second_query c.lines_are_in_order.ensures bytes c.args.counts.executors c.args.counts.queries c.args.at c.requires.begins (λ full. c.if-counts-eq-MAX_QUERIES.false full) (λ end. is.goes_on (ap (λ (m : ℕ). (second_at bytes m).piece) start ∙ end)) in
     let kind : f.kind ≡ refusal_kind (class_of (second_at bytes (line_from bytes c.args.at)).piece) c.args.counts.executors (c.args.counts.queries + 1) =
     is.kind ∙ ap (λ (m : ℕ). refusal_kind (class_of (second_at bytes m).piece) c.with_query-counts.result.executors c.with_query-counts.result.queries) start ∙ ap (λ (d : Counts). refusal_kind (class_of (second_at bytes (line_from bytes c.args.at)).piece) d.executors d.queries) c.with_query-counts.ensures in
     let place : f.at ≡ (second_at bytes (line_from bytes c.args.at)).from = is.place ∙ ap (λ (m : ℕ). (second_at bytes m).from) start in
@@ -44,5 +44,5 @@ returns-clause-fault c =
       next = is.next ∙ ap (λ (m : ℕ). line_below bytes m) start;
     } in
     handed_on c.read_body.result bytes (seen_with executor c.args.counts) (seen_with (query []) c.with_query-counts.result) c.args.at c.in_ok-below.below
-    (subst (λ (d : Counts). Leads bytes (seen_with executor c.args.counts) c.args.at (seen_with (query []) d) c.in_ok-below.below) (sym c.with_query-counts.ensures) (Leads-query_line bytes c.args.counts.executors c.args.counts.queries c.args.at c.in_ok-below.below (λ full. c.if-counts-eq-MAX_QUERIES.false full) line))
+    (subst (λ (d : Counts). Leads bytes (seen_with executor c.args.counts) c.args.at (seen_with (query []) d) c.in_ok-below.below) (sym c.with_query-counts.ensures) (Leads-query_line c.lines_are_in_order.ensures bytes c.args.counts.executors c.args.counts.queries c.args.at c.in_ok-below.below (λ full. c.if-counts-eq-MAX_QUERIES.false full) line))
     c.read_body.ensures.fault

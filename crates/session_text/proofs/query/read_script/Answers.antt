@@ -29,7 +29,7 @@ returns-in_err-query-clause-fault c =
     let bytes = c.args.bytes.now in
     let asked_before = c.loop-alloc.queries.items in
     let i = c.loop-alloc.invariant in
-    let leads = Leads-queries bytes c.args.counts.executors c.args.counts.queries c.args.start c.loop-alloc.at asked_before (omega (arith, i.queries, i.few)) i.read in
+    let leads = Leads-queries c.texts_are_lawful.ensures bytes c.args.counts.executors c.args.counts.queries c.args.start c.loop-alloc.at asked_before (omega (arith, i.queries, i.few)) i.read in
     handed_up c.from_residual.result c.in_err-query.field-0.0 bytes (seen_with executor c.args.counts) c.args.start c.from_residual.ensures.1
     (IsReadError-back bytes (seen_with executor c.args.counts) (seen_with executor c.loop-alloc.so_far) c.args.start c.loop-alloc.at c.in_err-query.field-0.0
     (subst (λ (s : Seen). Leads bytes (seen_with executor c.args.counts) c.args.start s c.loop-alloc.at) (asked-is c.args.counts c.loop-alloc.so_far (length asked_before) i.executors i.queries) leads)
@@ -37,7 +37,7 @@ returns-in_err-query-clause-fault c =
 
 pub loop-alloc-smaller : goal.loop-alloc-smaller
 loop-alloc-smaller c =
-    let a = IsQuery-ahead c.args.bytes.now c.loop-alloc.at c.in_ok-query.query c.in_ok-query.stop (c.in_ok-query.ensures {u = tt}).read in
+    let a = IsQuery-ahead c.texts_are_lawful.ensures.in_order c.args.bytes.now c.loop-alloc.at c.in_ok-query.query c.in_ok-query.stop (c.in_ok-query.ensures {u = tt}).read in
     omega (arith, a.0, a.1)
 
 pub loop-alloc-preserved : goal.loop-alloc-preserved

@@ -21,7 +21,7 @@ returns-then-not-is_end-clause-fault c =
     fault_is c.refusal.result bytes (seen_with (part_after c.args.counts.executors) c.args.counts) c.args.at _ _
     (c.refusal.ensures.kind ∙ ap (λ (k : Class). refusal_kind k c.args.counts.executors c.args.counts.queries) l.class)
     (c.refusal.ensures.place ∙ l.from)
-    (first_refused bytes (seen_with (part_after c.args.counts.executors) c.args.counts) c.args.at (between-no_query c.args.counts.executors) lt (cant_begin c.args.counts.executors (token_at bytes (line_from bytes c.args.at)).piece c.requires.no_executor c.requires.no_query (λ is. false≢true (sym c.if-not-is_end.true ∙ c.is_end.ensures.1 (l.class ∙ end-class _ is)))))
+    (first_refused c.lines_are_in_order.ensures bytes (seen_with (part_after c.args.counts.executors) c.args.counts) c.args.at (between-no_query c.args.counts.executors) lt (cant_begin c.args.counts.executors (token_at bytes (line_from bytes c.args.at)).piece c.requires.no_executor c.requires.no_query (λ is. false≢true (sym c.if-not-is_end.true ∙ c.is_end.ensures.1 (l.class ∙ end-class _ is)))))
 
 pub returns-in_err-below-clause-fault : goal.returns-in_err-below-clause-fault
 returns-in_err-below-clause-fault c =
@@ -30,7 +30,7 @@ returns-in_err-below-clause-fault c =
     let is = c.in_err-below.ensures {u = tt} in
     let start = c.line_at-line.ensures.start in
     let begins : (token_at bytes (line_from bytes c.args.at)).piece ≡ word end_word = class-end _ (sym c.line_at-line.ensures.class ∙ c.is_end.ensures.0 c.if-not-is_end.false) in
-    let second = second_end bytes c.args.counts.executors c.args.counts.queries c.args.at begins (λ end. is.goes_on (ap (λ (m : ℕ). (second_at bytes m).piece) start ∙ end)) in
+    let second = second_end c.lines_are_in_order.ensures bytes c.args.counts.executors c.args.counts.queries c.args.at begins (λ end. is.goes_on (ap (λ (m : ℕ). (second_at bytes m).piece) start ∙ end)) in
     let kind : f.kind ≡ refusal_kind (class_of (second_at bytes (line_from bytes c.args.at)).piece) c.args.counts.executors c.args.counts.queries =
     is.kind ∙ ap (λ (m : ℕ). refusal_kind (class_of (second_at bytes m).piece) c.args.counts.executors c.args.counts.queries) start in
     let place : f.at ≡ (second_at bytes (line_from bytes c.args.at)).from = is.place ∙ ap (λ (m : ℕ). (second_at bytes m).from) start in
@@ -48,5 +48,5 @@ returns-clause-fault c =
       next = is.next ∙ ap (λ (m : ℕ). line_below bytes m) start;
     } in
     fault_on c.read_rest.result bytes (seen_with (part_after c.args.counts.executors) c.args.counts) (seen_with ended c.args.counts) c.args.at c.in_ok-below.below
-    (Leads-end bytes (part_after c.args.counts.executors) c.args.counts.executors c.args.counts.queries c.args.at c.in_ok-below.below (between-no_query c.args.counts.executors) (between-end c.args.counts.executors) line)
+    (Leads-end c.lines_are_in_order.ensures bytes (part_after c.args.counts.executors) c.args.counts.executors c.args.counts.queries c.args.at c.in_ok-below.below (between-no_query c.args.counts.executors) (between-end c.args.counts.executors) line)
     c.read_rest.ensures.fault

@@ -17,7 +17,7 @@ returns-in_err-script-clause-fault c =
     let bytes = c.args.bytes.now in
     let before = c.loop-alloc.scripts.items in
     let i = c.loop-alloc.invariant in
-    let leads = Leads-executors bytes 0 0 c.args.start c.loop-alloc.stop before (omega (arith, i.executors, i.few_executors)) (omega (arith, i.queries, i.few_queries)) i.read in
+    let leads = Leads-executors c.texts_are_lawful.ensures bytes 0 0 c.args.start c.loop-alloc.stop before (omega (arith, i.executors, i.few_executors)) (omega (arith, i.queries, i.few_queries)) i.read in
     handed_up c.from_residual.result c.in_err-script.field-0.0 bytes nothing_seen c.args.start c.from_residual.ensures.1
     (IsReadError-back bytes nothing_seen (seen_with (part_after c.loop-alloc.counts.executors) c.loop-alloc.counts) c.args.start c.loop-alloc.stop c.in_err-script.field-0.0
     (subst (λ (s : Seen). Leads bytes nothing_seen c.args.start s c.loop-alloc.stop) (between-is c.loop-alloc.counts before i.executors i.queries) leads)
@@ -25,7 +25,7 @@ returns-in_err-script-clause-fault c =
 
 pub loop-alloc-smaller : goal.loop-alloc-smaller
 loop-alloc-smaller c =
-    let a = IsExecutor-ahead c.args.bytes.now c.loop-alloc.stop c.in_ok-script.script c.in_ok-script.next (c.in_ok-script.ensures {u = tt}).read in
+    let a = IsExecutor-ahead c.texts_are_lawful.ensures.in_order c.args.bytes.now c.loop-alloc.stop c.in_ok-script.script c.in_ok-script.next (c.in_ok-script.ensures {u = tt}).read in
     omega (arith, a.0, a.1)
 
 pub loop-alloc-preserved : goal.loop-alloc-preserved

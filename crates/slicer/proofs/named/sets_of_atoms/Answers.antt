@@ -1,13 +1,12 @@
-use Rattle.std.proofs.Common.{arith}
+use Rattle.std.proofs.Common.{arith, subst, sym}
 use Rattle.std.proofs.lemmas.List.{length_push}
 use Rattle.lin_model.specs.Conditions.{AtomNamesBelow}
-use Rattle.lin_model.proofs.Elements.{read_from_All}
 use Rattle.slicer.proofs.NamedLemmas.{sets_more}
 use Rattle.slicer.proofs.named.sets_of_atoms.Goals as goal
 
 pub set_of_atom-requires : goal.set_of_atom-requires
 set_of_atom-requires c =
-    read_from_All (AtomNamesBelow 64) c.args.atoms.now c.loop-atom.atom-index c.atom-item.result c.loop-atom-test.true c.atom-item.is c.requires
+    subst (AtomNamesBelow 64) (sym c.atom-item.is) (c.requires c.loop-atom.atom-index c.atom-item.result c.loop-atom-test.true)
 
 pub loop-atom-preserved : goal.loop-atom-preserved
 loop-atom-preserved c =

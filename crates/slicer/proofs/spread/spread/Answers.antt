@@ -2,9 +2,9 @@ use Rattle.std.proofs.Common.{◌≡◌, ℕ, ap, sym, ◌∙◌}
 use Rattle.std.proofs.lemmas.Bool.Decides.{Decides-eqb}
 use Rattle.slicer.specs.declared.var_set.VarSet.{VarSet}
 use Rattle.slicer.specs.Linked.{alone}
+use Rattle.slicer.specs.VarSets.{Has}
 use Rattle.slicer.proofs.ChainLemmas.{Chain-append}
 use Rattle.slicer.proofs.SpreadLemmas.{IsReached-closed}
-use Rattle.slicer.specs.VarSets.{Has}
 use Rattle.slicer.proofs.spread.spread.Goals as goal
 
 pub loop-next-init : goal.loop-next-init

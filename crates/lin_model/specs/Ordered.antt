@@ -1,7 +1,7 @@
--- Two lists in one order that have the same elements are equal.
+-- Two lists in one order that have the same elements are equal. It says nothing of this crate: the proofs of crates above use it.
 use Rattle.std.proofs.Common.{◌≡◌, suc, List, [], ◌∷◌, inl, inr, refl, arith, sym, subst, ap, ◌∙◌}
 use Rattle.std.specs.Prelude.{AllPairs, Contains}
-use Rattle.slicer.proofs.ElementLemmas.{Contains-cases, Contains-later, Contains-first, nothing_in_nil}
+use Rattle.lin_model.specs.Lists.{Contains-cases, Contains-later, Contains-first, nothing_in_nil}
 
 -- of two elements at most one comes before the other
 module _ {X : Type 0} (Before : X → X → Type 0) (one_way : (a b : X) → Before a b → ¬ Before b a) where
@@ -9,12 +9,15 @@ module _ {X : Type 0} (Before : X → X → Type 0) (one_way : (a b : X) → Bef
   abbrev InOrder : List X → Type 0
   InOrder xs = AllPairs Before xs
 
+  -- the rest of a list in order is in order
   pub in_order_tail : (x : X) (xs : List X) → InOrder (x ∷ xs) → InOrder xs
   in_order_tail x xs in_order i j d before within = in_order (suc i) (suc j) d (omega arith) (omega arith)
 
+  -- its first element comes before what the rest contains
   pub in_order_head : (x : X) (xs : List X) (n : X) → InOrder (x ∷ xs) → Contains xs n → Before x n
   in_order_head x xs n in_order has = subst (Before x) has.2 (in_order 0 (suc has.0) n (omega arith) (let within = has.1 in omega arith))
 
+  -- of two such lists with the same elements the first elements are the same
   heads_are_same : (x : X) (xs : List X) (y : X) (ys : List X) → InOrder (x ∷ xs) → InOrder (y ∷ ys) → Contains (y ∷ ys) x → Contains (x ∷ xs) y → x ≡ y
   heads_are_same x xs y ys of_x of_y has_x has_y =
       elim (Contains-cases y ys x has_x) [
@@ -33,6 +36,7 @@ module _ {X : Type 0} (Before : X → X → Type 0) (one_way : (a b : X) → Bef
         | inr later ↦ later
       ]
 
+  -- two lists in order that contain the same are equal
   pub same_from_in_order : (xs ys : List X) → InOrder xs → InOrder ys → ((n : X) → Contains xs n → Contains ys n) → ((n : X) → Contains ys n → Contains xs n) → xs ≡ ys
   same_from_in_order [] [] of_x of_y there back = refl
   same_from_in_order [] (y ∷ ys) of_x of_y there back = absurd (nothing_in_nil y (back y (Contains-first y ys)))

@@ -1,0 +1,28 @@
+-- Laws of products of integers, and that a factor keeps the order or turns it. They say nothing of this crate: the proofs of crates above use them.
+use Rattle.std.proofs.Common.{◌≡◌, ℕ, suc, ◌*◌, ℤ, pos, negsuc, ◌+ℤ◌, ◌*ℤ◌, ◌≤ℤ◌, arith, ap}
+use Rattle.std.proofs.Math.Nat.{mul-le-mul_left}
+use Rattle.std.proofs.lemmas.Int.{ints}
+use borrow.Author.Differences.{up, down, sum_is_lem, product_is, le_out}
+
+-- a sum times a factor
+pub distrib_right : (a b c : ℤ) → (a +ℤ b) *ℤ c ≡ (a *ℤ c) +ℤ (b *ℤ c)
+distrib_right a b c =
+    omega (arith, ints, ap (λ (x : ℕ). x * up c) (sum_is_lem a b), ap (λ (x : ℕ). x * down c) (sum_is_lem a b))
+
+-- a factor times a sum
+pub distrib_left : (a b c : ℤ) → a *ℤ (b +ℤ c) ≡ (a *ℤ b) +ℤ (a *ℤ c)
+distrib_left a b c =
+    omega (arith, ints, ap (λ (x : ℕ). up a * x) (sum_is_lem b c), ap (λ (x : ℕ). down a * x) (sum_is_lem b c))
+
+-- three factors
+pub times_assoc : (a b c : ℤ) → (a *ℤ b) *ℤ c ≡ a *ℤ (b *ℤ c)
+times_assoc a b c =
+    omega (arith, ints, ap (λ (x : ℕ). x * up c) (product_is a b).0, ap (λ (x : ℕ). x * down c) (product_is a b).0, ap (λ (x : ℕ). x * up c) (product_is a b).1, ap (λ (x : ℕ). x * down c) (product_is a b).1, ap (λ (x : ℕ). up a * x) (product_is b c).0, ap (λ (x : ℕ). down a * x) (product_is b c).0, ap (λ (x : ℕ). up a * x) (product_is b c).1, ap (λ (x : ℕ). down a * x) (product_is b c).1)
+
+-- a factor that isn't negative keeps the order
+pub scale_up : (n : ℕ) (x y : ℤ) → x ≤ℤ y → (pos n *ℤ x) ≤ℤ (pos n *ℤ y)
+scale_up n x y h = omega (arith, ints, mul-le-mul_left n (le_out x y h))
+
+-- a negative one turns it
+pub scale_down : (n : ℕ) (x y : ℤ) → x ≤ℤ y → (negsuc n *ℤ y) ≤ℤ (negsuc n *ℤ x)
+scale_down n x y h = omega (arith, ints, mul-le-mul_left (suc n) (le_out x y h))
