@@ -78,8 +78,9 @@ pub fn green<S: Source, K: Sink, D: Disk + Send, G: Gate + Sync>(
 /// Status 0: the whole input spells the session of the report; each answer is right and tells sat or unsat; the sink took
 /// the whole text of the answers. Status 3: the same, but some answer is `Unknown`. Status 13: the sink failed and took a
 /// front of the text.
-/// The others write a line of their own, or a front of it where the sink fails, and leave the report empty. 11: the input is no session; the line tells its
-/// first fault. 12: the source failed. 16: memory ran out. 18: more than 16,777,216 bytes came.
+/// The others write a line of their own, or a front of it where the sink fails, and leave the report empty. 11: the input
+/// is no session; the line tells its first fault. 12: the source failed. 16: memory ran out. 18: more than 16,777,216
+/// bytes came.
 /// A session's text within the limit, and no fault of source or sink, give 0, 3 or 16; and 3 doesn't come where the
 /// budget is at least the room of the key of each slice that was asked. The disks are handed back as they are.
 pub fn run_once<S: Source, K: Sink, D: Disk>(
