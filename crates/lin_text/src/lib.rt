@@ -13,8 +13,6 @@ mod query;
 mod refusal;
 mod run;
 mod side;
-#[cfg(test)]
-mod tests;
 mod token;
 mod write;
 

@@ -17,6 +17,4 @@ mod sessions;
 #[cfg(test)]
 mod sources;
 #[cfg(test)]
-mod streams;
-#[cfg(test)]
 mod words;

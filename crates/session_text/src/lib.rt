@@ -7,8 +7,6 @@ mod line;
 mod query;
 mod refusal;
 mod session;
-#[cfg(test)]
-mod tests;
 mod write;
 
 pub use laws::{

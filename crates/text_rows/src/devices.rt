@@ -1,7 +1,5 @@
 //! What no clause says: that the objects work with ample memory.
-use super::*;
-use std::io;
-use std::io::Cursor;
+use outside::{Failed, MemSink, MemSource, Sink, Source, StdSink, StdSource};
 use std::test::Fail;
 
 #[test]
