@@ -8,6 +8,3 @@ mod steps;
 pub use implication::implies;
 pub use laws::{covered_keys_hold, table_is_right};
 pub use steps::Steps;
-
-#[cfg(test)]
-mod tests;

@@ -20,6 +20,3 @@ pub use keys::canonise;
 pub use laws::{
     factors_keep_keys, keys_are_unique, keys_exist, renumbering_keeps_keys, repeating_keeps_keys,
 };
-
-#[cfg(test)]
-mod tests;

@@ -13,6 +13,3 @@ mod var_set;
 pub use division::slices;
 pub use laws::{slices_are_a_partition, slices_are_unique, slices_exist};
 pub use slice::Slice;
-
-#[cfg(test)]
-mod tests;

@@ -1,7 +1,7 @@
 //! The table of implication at small constants, against the sets of integers that pass.
 ghost use Rattle.std.specs.Prelude.{◌≡◌, ◌<◌};
 
-use crate::{Steps, implies};
+use atom_implies::{Steps, implies};
 use lin_model::{Form, FormTerm, KeyAtom, Op};
 use std::alloc::Global;
 use std::marker::Brand;
@@ -18,7 +18,7 @@ fn atom(alloc: Global, coef: i64, op: Op, constant: i64) -> Result<KeyAtom, Fail
         terms.push(FormTerm { var: 0, coef })?;
     }
     terms.push(FormTerm { var: 1, coef: 1 })?;
-    Ok(KeyAtom::new(Form::new(terms), op, constant).ok_or("a canonical atom")?)
+    Ok(KeyAtom::new(Form::new(terms), op, constant).ok_or("no canonical atom")?)
 }
 
 /// Whether each integer from -6 to 6 that passes the one test passes the other.
@@ -26,8 +26,13 @@ fn follows(op: Op, c: i64, other: Op, d: i64) -> bool {
     (-6..7).all(|n| !op.passes(c, n) || other.passes(d, n))
 }
 
+#[test]
+fn the_table_at_small_constants(rt: HostRuntime) -> Result<(), Fail> {
+    try_table::<Brand>(&rt, Blank::new(1))
+}
+
 /// Every pair of tests with constants from -2 to 2, on equal forms and on different ones.
-fn try_table<L: Ledger>(rt: &impl Abort, alloc: Global, blank: Blank) -> Result<(), Fail>
+fn try_table<L: Ledger>(rt: &(impl Abort + AllocGlobal), blank: Blank) -> Result<(), Fail>
     requires name { blank.name ≡ L.name }
     requires parts { blank.parts ≡ L.parts }
     requires some { 0 < blank.parts }
@@ -35,27 +40,39 @@ fn try_table<L: Ledger>(rt: &impl Abort, alloc: Global, blank: Blank) -> Result<
     let mut steps: Steps<L> = Steps::new(blank);
     for op in &OPS {
         for c in -2..3 {
-            let a = atom(alloc, 2, *op, c)?;
-            for other in &OPS {
-                for d in -2..3 {
-                    let same = atom(alloc, 2, *other, d)?;
-                    assert_eq!(rt;
-                        implies(&a, &same, &mut steps),
-                        follows(*op, c, *other, d),
-                        "{op:?} {c}, {other:?} {d}"
-                    );
-                    let another = atom(alloc, 3, *other, d)?;
-                    assert!(rt; !implies(&a, &another, &mut steps), "another coefficient");
-                    let shorter = atom(alloc, 0, *other, d)?;
-                    assert!(rt; !implies(&a, &shorter, &mut steps), "a term less");
-                }
-            }
+            try_row(rt, *op, c, &mut steps)?;
         }
     }
     Ok(())
 }
 
-#[test]
-fn the_table_at_small_constants(rt: HostRuntime) -> Result<(), Fail> {
-    try_table::<Brand>(&rt, rt.alloc(), Blank::new(1))
+fn try_row<L: Ledger>(
+    rt: &(impl Abort + AllocGlobal),
+    op: Op,
+    c: i64,
+    steps: &mut Steps<L>,
+) -> Result<(), Fail> {
+    let a = atom(rt.alloc(), 2, op, c)?;
+    for other in &OPS {
+        for d in -2..3 {
+            let want = follows(op, c, *other, d);
+            expect(rt, &a, (2, *other, d), want, steps)?;
+            expect(rt, &a, (3, *other, d), false, steps)?;
+            expect(rt, &a, (0, *other, d), false, steps)?;
+        }
+    }
+    Ok(())
+}
+
+/// Expects that the atom implies the one with these parts, or that it doesn't.
+fn expect<L: Ledger>(
+    rt: &(impl Abort + AllocGlobal),
+    a: &KeyAtom,
+    (coef, op, constant): (i64, Op, i64),
+    want: bool,
+    steps: &mut Steps<L>,
+) -> Result<(), Fail> {
+    let b = atom(rt.alloc(), coef, op, constant)?;
+    assert_eq!(rt; implies(a, &b, steps), want, "{coef} {op:?} {constant}");
+    Ok(())
 }

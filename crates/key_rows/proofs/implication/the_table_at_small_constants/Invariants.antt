@@ -1,4 +1,4 @@
-use Rattle.atom_implies.proofs.tests.the_table_at_small_constants.Given as goal
+use Rattle.key_rows.proofs.implication.the_table_at_small_constants.Given as goal
 
 -- the ledger of the blank that is passed
 abbrev pub ghosts-try_table : goal.ghosts-try_table
