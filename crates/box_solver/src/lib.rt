@@ -9,8 +9,6 @@ mod laws;
 mod one_atom;
 mod region;
 mod search;
-#[cfg(test)]
-mod tests;
 
 pub use boxed::is_boxed;
 pub use found::Found;

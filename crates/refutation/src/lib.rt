@@ -11,8 +11,6 @@ mod node;
 mod one_side;
 mod side;
 mod sum;
-#[cfg(test)]
-mod tests;
 mod tree;
 mod turn;
 mod value;

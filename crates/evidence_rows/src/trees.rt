@@ -1,26 +1,12 @@
 //! Worked trees and leaves, by hand.
-
-use crate::{Bounds, Leaf, LeafTerm, Node, On, Side, TreeFault, closes, refutes};
+use crate::fixtures::{DIFFERENCE, atom, key_of, on_atom, on_side};
 use arrayvec::ArrayVec;
-use lin_model::{Form, FormTerm, Key, KeyAtom, Op};
+use lin_model::{Key, Op};
+use outside::NoMemory;
+use refutation::{Bounds, Leaf, LeafTerm, Node, Side, TreeFault, closes, refutes};
 use std::alloc::Global;
+use std::process::Abort;
 use std::test::Fail;
-
-const DIFFERENCE: [FormTerm; 2] = [FormTerm { var: 0, coef: 1 }, FormTerm { var: 1, coef: -1 }];
-
-/// The atom of these parts, which are canonical.
-fn atom(alloc: Global, terms: &[FormTerm], op: Op, constant: i64) -> Result<KeyAtom, Fail> {
-    let form = Form::new(terms.to_vec(alloc)?);
-    Ok(KeyAtom::new(form, op, constant).ok_or("not canonical")?)
-}
-
-/// The key of these atoms, which are in order.
-fn key_of(atoms: Vec<KeyAtom>) -> Result<Key, Fail> {
-    match Key::of(atoms) {
-        Ok(key) => Ok(key),
-        Err(_) => Err(Fail::from("out of order")),
-    }
-}
 
 /// `v0 - v1 <= low` and `v0 - v1 >= high`.
 fn crossed(alloc: Global, low: i64, high: i64) -> Result<Key, Fail> {
@@ -37,20 +23,6 @@ fn pinned(alloc: Global) -> Result<Key, Fail> {
     atoms.push(atom(alloc, &DIFFERENCE, Op::Ge, 0)?)?;
     atoms.push(atom(alloc, &DIFFERENCE, Op::Ne, 0)?)?;
     key_of(atoms)
-}
-
-fn on_atom(number: u16, factor: i64) -> LeafTerm {
-    LeafTerm {
-        on: On::Atom(number),
-        factor,
-    }
-}
-
-fn on_side(number: u16, factor: i64) -> LeafTerm {
-    LeafTerm {
-        on: On::Side(number),
-        factor,
-    }
 }
 
 #[test]
@@ -122,33 +94,40 @@ const SPLITS: usize = 50_000;
 
 #[test]
 fn a_tree_of_many_nodes_refutes(rt: HostRuntime) -> Result<(), Fail> {
-    let alloc = rt.alloc();
-    let key = crossed(alloc, -1, 1)?;
-    let mut nodes = Vec::new(alloc);
-    let mut terms = Vec::new(alloc);
+    let key = crossed(rt.alloc(), -1, 1)?;
+    let mut nodes = Vec::new(rt.alloc());
+    let mut terms = Vec::new(rt.alloc());
     for cut in 0..SPLITS {
         nodes.push(Node::Split {
             var: 0,
             cut: cut as i64,
         })?;
-        nodes.push(Node::Combo { count: 2 })?;
-        terms.push(on_atom(0, 1))?;
-        terms.push(on_atom(1, 1))?;
+        push_leaf(&mut nodes, &mut terms)?;
     }
-    assert_eq!(rt;
-        refutes(alloc, &key, &nodes, &terms),
-        Err(TreeFault::TreeEnds)
-    );
+    expect_tree(&rt, &key, &nodes, &terms, Err(TreeFault::TreeEnds));
+    push_leaf(&mut nodes, &mut terms)?;
+    assert_eq!(rt; nodes.len(), 100_001);
+    expect_tree(&rt, &key, &nodes, &terms, Ok(()));
+    nodes[SPLITS] = Node::Empty;
+    let at = SPLITS as u64;
+    expect_tree(&rt, &key, &nodes, &terms, Err(TreeFault::NodeFails(at)));
+    Ok(())
+}
+
+/// Adds a leaf that closes any box by both atoms of `crossed`.
+fn push_leaf(nodes: &mut Vec<Node>, terms: &mut Vec<LeafTerm>) -> Result<(), NoMemory> {
     nodes.push(Node::Combo { count: 2 })?;
     terms.push(on_atom(0, 1))?;
     terms.push(on_atom(1, 1))?;
-    assert_eq!(rt; nodes.len(), 100_001);
-    assert_eq!(rt; refutes(alloc, &key, &nodes, &terms), Ok(()));
-    nodes[SPLITS] = Node::Empty;
-    let at = SPLITS as u64;
-    assert_eq!(rt;
-        refutes(alloc, &key, &nodes, &terms),
-        Err(TreeFault::NodeFails(at))
-    );
     Ok(())
+}
+
+fn expect_tree(
+    rt: &(impl Abort + AllocGlobal),
+    key: &Key,
+    nodes: &[Node],
+    terms: &[LeafTerm],
+    want: Result<(), TreeFault>,
+) {
+    assert_eq!(rt; refutes(rt.alloc(), key, nodes, terms), want);
 }

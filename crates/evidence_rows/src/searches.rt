@@ -1,43 +1,33 @@
 //! Worked searches, by hand.
-
 ghost use Rattle.std.specs.Prelude.{IfOk};
 ghost use Rattle.refutation.specs.Boxed.{IsBoxed};
 
-use crate::{Found, TreeRegion, is_boxed, solve};
-use lin_model::{Form, FormTerm, Key, KeyAtom, Op};
-use refutation::{LeafTerm, Node, On, refutes};
+use crate::fixtures::{DIFFERENCE, atom, key_of, on_atom};
+use box_solver::{Found, TreeRegion, is_boxed, solve};
+use lin_model::{FormTerm, Key, KeyAtom, Op};
+use refutation::{Node, refutes};
 use std::alloc::Global;
 use std::test::Fail;
 
+/// `v0`
 const FIRST: [FormTerm; 1] = [FormTerm { var: 0, coef: 1 }];
 
+/// `v1`
 const SECOND: [FormTerm; 1] = [FormTerm { var: 1, coef: 1 }];
-
-const DIFFERENCE: [FormTerm; 2] = [FormTerm { var: 0, coef: 1 }, FormTerm { var: 1, coef: -1 }];
 
 const LEAST: i64 = -2147483648;
 
 const GREATEST: i64 = 2147483647;
 
-/// The atom of these parts, which are canonical.
-fn atom(alloc: Global, terms: &[FormTerm], op: Op, constant: i64) -> Result<KeyAtom, Fail> {
-    let form = Form::new(terms.to_vec(alloc)?);
-    Ok(KeyAtom::new(form, op, constant).ok_or("not canonical")?)
-}
-
 /// The key of these atoms, which are in order and hold each variable from both sides.
 fn boxed(atoms: Vec<KeyAtom>) -> Result<Key, Fail>
     ensures { IfOk result (λ key. IsBoxed key) }
 {
-    match Key::of(atoms) {
-        Ok(key) => {
-            if is_boxed(&key) {
-                Ok(key)
-            } else {
-                Err(Fail::from("not boxed"))
-            }
-        }
-        Err(_) => Err(Fail::from("out of order")),
+    let key = key_of(atoms)?;
+    if is_boxed(&key) {
+        Ok(key)
+    } else {
+        Err(Fail::from("not boxed"))
     }
 }
 
@@ -55,14 +45,6 @@ fn apart(alloc: Global, low: i64, high: i64, both: bool) -> Result<Key, Fail>
     atoms.push(atom(alloc, &SECOND, Op::Le, high)?)?;
     atoms.push(atom(alloc, &SECOND, Op::Ge, low)?)?;
     boxed(atoms)
-}
-
-/// The atom of this number, once.
-fn on_atom(number: u16) -> LeafTerm {
-    LeafTerm {
-        on: On::Atom(number),
-        factor: 1,
-    }
 }
 
 #[test]
@@ -91,7 +73,7 @@ fn a_split_refutes_two_values_each(rt: HostRuntime) -> Result<(), Fail> {
         Node::Combo { count: 1 },
     ];
     assert!(rt; region.nodes() == nodes.as_slice());
-    assert!(rt; region.terms() == [on_atom(3), on_atom(2)].as_slice());
+    assert!(rt; region.terms() == [on_atom(3, 1), on_atom(2, 1)].as_slice());
     assert_eq!(rt;
         refutes(alloc, &key, region.nodes(), region.terms()),
         Ok(())

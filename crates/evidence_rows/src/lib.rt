@@ -1,0 +1,9 @@
+//! Tests of refutations and searches: worked trees and leaves, and searches whose trees were reckoned by hand.
+#![tactic(auto)]
+
+#[cfg(test)]
+mod fixtures;
+#[cfg(test)]
+mod searches;
+#[cfg(test)]
+mod trees;
