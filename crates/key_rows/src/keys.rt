@@ -67,8 +67,8 @@ fn first(alloc: Global, text: &str) -> Result<Canonical, Fail> {
     Ok(canonise(alloc, &c, &found[0])?)
 }
 
-/// What a slice comes to, as a text: the letters of its variables in the order of their numbers and the atoms of its key,
-/// or the number of an atom that no integers satisfy.
+/// What a slice comes to, as a text: the letters of its variables in the order of their numbers and the atoms of its
+/// key, or the number of an atom that no integers satisfy.
 fn spelled(alloc: Global, found: &Canonical) -> Result<String, AllocError> {
     match found {
         Canonical::False(j) => format!(in alloc; "false {j}"),
@@ -121,7 +121,8 @@ fn push_test(alloc: Global, text: &mut String, op: Op, constant: i64) -> Result<
     text.push_str(spelled.as_str())
 }
 
-/// No atom; at most is rounded down, with either sign of the constant and of the coefficient, and at least is rounded up.
+/// No atom; at most is rounded down, with either sign of the constant and of the coefficient, and at least is rounded
+/// up.
 const ROUNDED: &str = "A, 1v0 <= 9, 1v0 >= -9:
 A, 1v0 <= 3, 1v0 >= -9:2*A <= 7;
 A, 1v0 <= -4, 1v0 >= -9:2*A <= -7;
@@ -179,7 +180,8 @@ AB, 1v0 <= 5, 1v0 >= 0, 1v1 <= 7, 1v1 >= 0:4*A - 6*B != 9;
 AB, 1v0 <= 5, 1v0 >= 0, 2v0 -3v1 <= -5, 1v1 <= 7, 1v1 >= 0:-4*A + 6*B >= 9;
 AB, 1v0 <= 5, 1v0 >= 0, 2v0 -3v1 >= -4, 1v1 <= 7, 1v1 >= 0:-4*A + 6*B <= 9;
 BA, 1v0 <= 7, 1v0 >= 0, 1v1 <= 3, 1v1 >= 0:B - B + A <= 3;
-AB, 1v0 <= 5, 1v0 >= 0, 1v0 != 2, 1v0 1v1 <= 3, 1v0 1v1 >= 2, 1v0 2v1 = 7, 1v1 <= 7, 1v1 >= 0:A + B <= 6;A != 2;2*A + 2*B >= 4;A + 2*B = 7;3*A + 3*B < 12;";
+AB, 1v0 <= 5, 1v0 >= 0, 1v0 != 2, 1v0 1v1 <= 3, 1v0 1v1 >= 2, 1v0 2v1 = 7, 1v1 <= 7, 1v1 >= 0:\
+    A + B <= 6;A != 2;2*A + 2*B >= 4;A + 2*B = 7;3*A + 3*B < 12;";
 
 /// The slice of the atoms without variables.
 const NONE: &str = ":7 >= 7;

@@ -92,8 +92,8 @@ fn expect_row(rt: &(impl Abort + AllocGlobal), row: &str) -> Result<(), Fail> {
 
 /// Of nothing at all; of variables that no atom names; of atoms without variables, alone and in front of others; of
 /// factors that cancel, and of a factor of 0; of the two sides of an atom; of a chain in the order of its atoms and
-/// against it; of two chains that one atom joins at the end; of classes between one another, and of a variable of its own
-/// between linked ones; of a term that stands twice, and of an atom that is repeated.
+/// against it; of two chains that one atom joins at the end; of classes between one another, and of a variable of its
+/// own between linked ones; of a term that stands twice, and of an atom that is repeated.
 const SLICES: &str = ":
 (0 |)(1 |):var a 0 9;var b 0 9;
 (| 0 1):7 <= 7;7 + 7 <= 7;

@@ -1,5 +1,5 @@
-//! Tests of the devices and of the texts: what objects in memory and streams of std do, and texts that are read, refused
-//! and written.
+//! Tests of the devices and of the texts: what objects in memory and streams of std do, and texts that are read,
+//! refused and written.
 #![tactic(auto)]
 
 #[cfg(test)]
