@@ -14,6 +14,7 @@ mod SumLemmas
 mod LeafLemmas
 mod WalkLemmas
 mod ReadingLemmas
+mod OneAnswer
 mod BoxedLemmas
 mod BoundedLemmas
 mod SplitLemmas

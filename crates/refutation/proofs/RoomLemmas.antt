@@ -1,15 +1,15 @@
 -- An open tree has fewer splits than its key has room: the undecided boxes and the splits weigh no more than the root.
-use Rattle.std.proofs.Common.{◌≡◌, ◌≢◌, ℕ, zero, suc, ◌+◌, ◌*◌, ◌<◌, ◌≤◌, ℤ, Bool, true, false, not, cond, ◌&&◌, ◌||◌, eqb, Some, None, List, [], ◌∷◌, ◌++◌, length, take, drop, nat_le, slice_get, refl, ap, sym, ◌∙◌, subst, arith}
+use Rattle.std.proofs.Common.{◌≡◌, ◌≢◌, ℕ, zero, suc, ◌+◌, ◌*◌, ◌<◌, ◌≤◌, ℤ, Bool, true, false, not, cond, ◌&&◌, ◌||◌, eqb, Some, None, List, [], ◌∷◌, ◌++◌, length, take, drop, nat_le, slice_get, ⊎_elim, refl, ap, sym, ◌∙◌, subst, arith}
 use Rattle.std.specs.List.{All, list_any, range_with_len}
 use Rattle.std.specs.Option.{IsSomeAnd}
-use Rattle.std.proofs.lemmas.Bool.{eq-eqb, ne_eqb, or_right, false_from_ne_true}
+use Rattle.std.proofs.lemmas.Bool.{eq-eqb, ne_eqb, or_right, false_from_ne_true, cases_Bool}
 use Rattle.std.proofs.Math.Nat.{mul-le-mul}
 use Rattle.std.proofs.lemmas.List.{length-append}
 use Rattle.std.proofs.lemmas.List.Elements.{All-nil, All-cons, All-append, All-head, All-tail}
 use Rattle.std.proofs.lemmas.List.Sums.{sum_by-append}
 use Rattle.lin_model.specs.KeyAtom.{PlainKeyAtom}
 use Rattle.lin_model.specs.Key.{IsKey, key_width}
-use Rattle.lin_model.specs.Lists.{chosen, Found-from}
+use Rattle.lin_model.specs.Lists.{chosen}
 use Rattle.lin_model.specs.Facts.{key-narrow}
 use Rattle.refutation.specs.declared.leaf.LeafTerm.{LeafTerm}
 use Rattle.refutation.specs.declared.node.Node.{Node}
@@ -19,8 +19,9 @@ use Rattle.refutation.specs.Bounds.{key_bounds, is_empty}
 use Rattle.refutation.specs.Box.{PlainBox, root_box, is_ne, left_half, right_half, on_side}
 use Rattle.refutation.specs.Boxed.{IsBoxed, IsBoxedIn}
 use Rattle.refutation.specs.Leaf.{combo, fixed, empty, closes}
-use Rattle.refutation.specs.Reading.{Treated, treated, closed_by, is_split, names_ne}
-use Rattle.refutation.specs.SearchTree.{Rule, KeepsRule, IsFairSplit, IsUndecided, decided, Searches, is_inner, is_left, inner_count, FirstLeftIsUndecided, IsOpenTree, points_over, doubling, room}
+use Rattle.refutation.specs.Reading.{Treated, treated, closed_by, is_split, names_ne, Met, TreeReading, read_over}
+use Rattle.refutation.specs.ReadingFacts.{first_is_read}
+use Rattle.refutation.specs.SearchTree.{is_inner, is_left, inner_count, IsFairSplit, first_left, Rule, IsUndecidedBy, IsSearchSplitBy, KeepsOrderBy, IsOpenTreeBy, points_over, doubling, room}
 use Rattle.refutation.proofs.LookUps.{test_found}
 use Rattle.refutation.proofs.SplitLemmas.{fair-cut, left-boxed, right-boxed, halves-points, points-some}
 
@@ -165,12 +166,14 @@ chosen-shares : (key : List PlainKeyAtom) (box : PlainBox) (inner : ℕ) (b : Bo
 chosen-shares key box inner b v r is h =
     let two = chosen b v r is in subst (λ (t : Treated). Shares key box inner t.boxes) two.1 (h two.0)
 
-node-shares : (rule : Rule) (key : List PlainKeyAtom) (box : PlainBox) (node : Node) (terms : List LeafTerm) (r : Treated) → key_width key ≤ 64 → HasRoom key box → KeepsRule rule key box node → decided key box node terms ≡ Some r → Shares key box (inner_count (node ∷ [])) r.boxes
+node-shares : (rule : Rule) (key : List PlainKeyAtom) (box : PlainBox) (node : Node) (terms : List LeafTerm) (r : Treated)
+    → key_width key ≤ 64 → HasRoom key box → (is_inner node ≡ true → IsSearchSplitBy rule key box node)
+    → treated true key box node terms ≡ Some r → Shares key box (inner_count (node ∷ [])) r.boxes
 unfolding treated
 node-shares rule key box (Split v cut) terms r narrow h keeps is =
-    chosen-shares key box 1 (is_split v cut) (record { boxes = left_half box v cut ∷ right_half box v cut ∷ []; terms = terms }) r is (λ _. split-shares key box v cut narrow h keeps.fair)
+    chosen-shares key box 1 (is_split v cut) (record { boxes = left_half box v cut ∷ right_half box v cut ∷ []; terms = terms }) r is (λ _. split-shares key box v cut narrow h (keeps refl).fair)
 node-shares rule key box (NeSplit i) terms r narrow h keeps is =
-    chosen-shares key box 1 (names_ne key i) (record { boxes = on_side box i false ∷ on_side box i true ∷ []; terms = terms }) r is (ne-shares key box i h keeps.fair)
+    chosen-shares key box 1 (names_ne key i) (record { boxes = on_side box i false ∷ on_side box i true ∷ []; terms = terms }) r is (ne-shares key box i h (keeps refl).fair)
 node-shares rule key box (Combo count) terms r narrow h keeps is =
     chosen-shares key box 0 (nat_le count (length terms) && closes key box (combo (take count terms))) (record { boxes = []; terms = drop count terms }) r is (λ _. closed-shares key box narrow h)
 node-shares rule key box (Fixed i) terms r narrow h keeps is =
@@ -186,44 +189,73 @@ inner_count-cons : (node : Node) (nodes : List Node) → inner_count (node ∷ n
 inner_count-cons node nodes = sum_by-append (λ (n : Node). cond (is_inner n) 1 0) (node ∷ []) nodes
 
 -- the splits that are read over boxes, and these, are together no more than the weight of the boxes
-splits-few : (rule : Rule) (key : List PlainKeyAtom) (nodes : List Node) (terms : List LeafTerm) (boxes : List PlainBox) → key_width key ≤ 64 → All (HasRoom key) boxes → Searches rule key nodes terms boxes → inner_count nodes + length boxes ≤ weight_in key boxes
-unfolding Searches
-splits-few rule key [] terms boxes narrow fit h = omega (arith, weight-many key boxes narrow fit)
-splits-few rule key (node ∷ nodes) terms [] narrow fit h = absurd h
-splits-few rule key (node ∷ nodes) terms (box ∷ boxes) narrow fit h =
-    let on = Found-from (decided key box node terms) (λ (r : Treated). Searches rule key nodes r.terms (r.boxes ++ boxes)) h.1 in
-    let shares = node-shares rule key box node terms on.value narrow (All-head (HasRoom key) box boxes fit) h.0 on.is in
-    let rest = splits-few rule key nodes on.value.terms (on.value.boxes ++ boxes) narrow (All-append (HasRoom key) on.value.boxes boxes shares.room (All-tail (HasRoom key) box boxes fit)) on.holds in
-    omega (arith, shares.weight, rest, weight_in-append key on.value.boxes boxes, length-append on.value.boxes boxes, inner_count-cons node nodes)
+splits-few : (rule : Rule) (key : List PlainKeyAtom) (nodes : List Node) (terms : List LeafTerm) (boxes : List PlainBox)
+    → key_width key ≤ 64 → All (HasRoom key) boxes → (read_over true key nodes terms boxes).rest ≡ []
+    → All (KeepsOrderBy rule key) (read_over true key nodes terms boxes).met
+    → inner_count nodes + length boxes ≤ weight_in key boxes
+unfolding read_over
+splits-few rule key [] terms boxes narrow fit no_rest order = omega (arith, weight-many key boxes narrow fit)
+splits-few rule key (node ∷ nodes) terms [] narrow fit no_rest order = absurd (cc)
+splits-few rule key (node ∷ nodes) terms (box ∷ boxes) narrow fit no_rest order =
+    let on = first_is_read true key node nodes terms box boxes no_rest in
+    let behind_it = read_over true key nodes on.after.terms (on.after.boxes ++ boxes) in
+    let here : Met = record { node = node; box = box } in
+    let order' : All (KeepsOrderBy rule key) (here ∷ behind_it.met) = subst (λ (r : TreeReading). All (KeepsOrderBy rule key) r.met) on.then_rest order in
+    let shares = node-shares rule key box node terms on.after narrow (All-head (HasRoom key) box boxes fit) (All-head (KeepsOrderBy rule key) here behind_it.met order') on.is in
+    let rest = splits-few rule key nodes on.after.terms (on.after.boxes ++ boxes) narrow (All-append (HasRoom key) on.after.boxes boxes shares.room (All-tail (HasRoom key) box boxes fit)) on.rest_read (All-tail (KeepsOrderBy rule key) here behind_it.met order') in
+    omega (arith, shares.weight, rest, weight_in-append key on.after.boxes boxes, length-append on.after.boxes boxes, inner_count-cons node nodes)
 
 -- ---- the root of an open tree isn't empty
 
-undecided-full : (rule : Rule) (key : List PlainKeyAtom) (box : PlainBox) → IsUndecided rule key box → is_empty box.bounds ≡ false
+undecided-full : (rule : Rule) (key : List PlainKeyAtom) (box : PlainBox) → IsUndecidedBy rule key box → is_empty box.bounds ≡ false
 undecided-full rule key box h = false_from_ne_true (is_empty box.bounds) (λ is. h.not_by_one (empty, refl, is))
 
--- no node follows a leaf that closes the last box
-none_follows : (rule : Rule) (key : List PlainKeyAtom) (nodes : List Node) (b : Bool) (terms : List LeafTerm) → IsSomeAnd (closed_by b terms) (λ (r : Treated). Searches rule key nodes r.terms (r.boxes ++ [])) → list_any is_left nodes ≡ true → ⊥
-unfolding Searches
-none_follows rule key [] b terms h left = absurd (cc)
-none_follows rule key (node ∷ nodes) true terms h left = h
-none_follows rule key (node ∷ nodes) false terms h left = h
+closed-leaves_none : (b : Bool) (terms : List LeafTerm) (r : Treated) → closed_by b terms ≡ Some r → r.boxes ≡ []
+closed-leaves_none b terms r h = ap (λ (t : Treated). t.boxes) (sym (chosen b (record { boxes = []; terms = terms }) r h).1)
 
-first-full : (rule : Rule) (key : List PlainKeyAtom) (nodes : List Node) (terms : List LeafTerm) (box : PlainBox) → Searches rule key nodes terms (box ∷ []) → list_any is_left nodes ≡ true → FirstLeftIsUndecided rule key nodes terms (box ∷ []) → is_empty box.bounds ≡ false
-unfolding Searches FirstLeftIsUndecided treated
-first-full rule key [] terms box h left first = absurd (cc)
-first-full rule key (Split v cut ∷ nodes) terms box h left first = undecided-full rule key box h.0.undecided
-first-full rule key (NeSplit i ∷ nodes) terms box h left first = undecided-full rule key box h.0.undecided
-first-full rule key (Combo count ∷ nodes) terms box h left first = absurd (none_follows rule key nodes (nat_le count (length terms) && closes key box (combo (take count terms))) (drop count terms) h.1 left)
-first-full rule key (Fixed i ∷ nodes) terms box h left first = absurd (none_follows rule key nodes (closes key box (fixed i)) terms h.1 left)
-first-full rule key (Empty ∷ nodes) terms box h left first = absurd (none_follows rule key nodes (closes key box empty) terms h.1 left)
-first-full rule key (Left ∷ nodes) terms box h left first = undecided-full rule key box first
+-- a node that doesn't split leaves no box
+leaf-leaves_none : (key : List PlainKeyAtom) (box : PlainBox) (node : Node) (terms : List LeafTerm) (r : Treated) → is_inner node ≡ false → treated true key box node terms ≡ Some r → r.boxes ≡ []
+unfolding treated
+leaf-leaves_none key box (Split v cut) terms r leaf is = absurd (cc)
+leaf-leaves_none key box (NeSplit i) terms r leaf is = absurd (cc)
+leaf-leaves_none key box (Combo count) terms r leaf is = closed-leaves_none (nat_le count (length terms) && closes key box (combo (take count terms))) (drop count terms) r is
+leaf-leaves_none key box (Fixed i) terms r leaf is = closed-leaves_none (closes key box (fixed i)) terms r is
+leaf-leaves_none key box Empty terms r leaf is = closed-leaves_none (closes key box empty) terms r is
+leaf-leaves_none key box Left terms r leaf is = closed-leaves_none true terms r is
+
+-- where no box is left, no node is read
+none_met : (key : List PlainKeyAtom) (nodes : List Node) (terms : List LeafTerm) → (read_over true key nodes terms []).met ≡ []
+unfolding read_over
+none_met key [] terms = refl
+none_met key (node ∷ nodes) terms = refl
+
+-- the only box is split, or its node is the first Left
+first-full : (rule : Rule) (key : List PlainKeyAtom) (nodes : List Node) (terms : List LeafTerm) (box : PlainBox)
+    → (read_over true key nodes terms (box ∷ [])).rest ≡ [] → All (KeepsOrderBy rule key) (read_over true key nodes terms (box ∷ [])).met
+    → IsSomeAnd (first_left (read_over true key nodes terms (box ∷ [])).met) (λ (m : Met). IsUndecidedBy rule key m.box)
+    → is_empty box.bounds ≡ false
+unfolding read_over
+first-full rule key [] terms box no_rest order first = absurd first
+first-full rule key (node ∷ nodes) terms box no_rest order first =
+    let on = first_is_read true key node nodes terms box [] no_rest in
+    let behind_it = read_over true key nodes on.after.terms (on.after.boxes ++ []) in
+    let here : Met = record { node = node; box = box } in
+    let order' : All (KeepsOrderBy rule key) (here ∷ behind_it.met) = subst (λ (r : TreeReading). All (KeepsOrderBy rule key) r.met) on.then_rest order in
+    let first' : IsSomeAnd (first_left (here ∷ behind_it.met)) (λ (m : Met). IsUndecidedBy rule key m.box) = subst (λ (r : TreeReading). IsSomeAnd (first_left r.met) (λ (m : Met). IsUndecidedBy rule key m.box)) on.then_rest first in
+    ⊎_elim (λ inner. undecided-full rule key box (All-head (KeepsOrderBy rule key) here behind_it.met order' inner).undecided) (λ leaf. let alone : behind_it.met ≡ [] = ap (λ (bs : List PlainBox). (read_over true key nodes on.after.terms (bs ++ [])).met) (leaf-leaves_none key box node terms on.after leaf on.is) ∙ none_met key nodes on.after.terms in
+    by_left (is_left node) (subst (λ (ms : List Met). IsSomeAnd (first_left (here ∷ ms)) (λ (m : Met). IsUndecidedBy rule key m.box)) alone first')) (cases_Bool (is_inner node))
+  where
+    by_left : (b : Bool) → IsSomeAnd (cond b (Some (record { node = node; box = box })) None) (λ (m : Met). IsUndecidedBy rule key m.box) → is_empty box.bounds ≡ false
+    by_left true h = undecided-full rule key box h
+    by_left false h = absurd h
 
 -- the theorem
-pub open-below_room : (rule : Rule) (key : List PlainKeyAtom) (splits : ℕ) (nodes : List Node) (terms : List LeafTerm) → IsKey key → IsBoxed key → IsOpenTree rule key splits nodes terms → splits < room key
+pub open-below_room : (rule : Rule) (key : List PlainKeyAtom) (splits : ℕ) (nodes : List Node) (terms : List LeafTerm)
+    → IsKey key → IsBoxed key → IsOpenTreeBy rule key splits nodes terms → splits < room key
 unfolding room
 open-below_room rule key splits nodes terms is boxed open_tree =
-    let full = first-full rule key nodes terms (root_box key) open_tree.search open_tree.has_left open_tree.first_left in
+    let full = first-full rule key nodes terms (root_box key) open_tree.search.no_rest open_tree.search.in_order open_tree.first in
     let fit = All-cons (HasRoom key) (root_box key) [] (record { full = full; boxed = boxed }) (All-nil (HasRoom key)) in
-    let few = splits-few rule key nodes terms (root_box key ∷ []) (key-narrow key is) fit open_tree.search in
+    let few = splits-few rule key nodes terms (root_box key ∷ []) (key-narrow key is) fit open_tree.search.no_rest open_tree.search.in_order in
     let whole = ap (λ (n : ℕ). points_over (key_bounds key) (range_with_len 0 (key_width key)) * n) (doubling-root 0 key) in
     omega (arith, few, whole, open_tree.inner)

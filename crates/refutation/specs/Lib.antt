@@ -12,3 +12,4 @@ pub mod Halving
 pub mod SearchTree
 pub mod Laws
 pub mod Facts
+pub mod ReadingFacts

@@ -7,6 +7,11 @@ use Rattle.refutation.specs.Bounds.{IsSide}
 use Rattle.refutation.specs.Box.{PlainBox, right_half, on_side}
 use Rattle.refutation.specs.Reading.{Treated}
 
+-- what holds of the first box and of those behind it, where there is a first
+abbrev pub OnFirst : List PlainBox → (PlainBox → List PlainBox → Type 0) → Type 0
+OnFirst [] P = Unit {0}
+OnFirst (box ∷ boxes) P = P box boxes
+
 -- the limits of a turn
 abbrev pub IsTurn : Turn → Type 0
 IsTurn (SplitLeft v cut upper) = (v < 64) × (unsigned_abs cut ≤ 2 ^ 32) × IsSide upper

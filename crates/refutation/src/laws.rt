@@ -1,5 +1,11 @@
 //! Laws of refutations and bounds, each the contract of a function that does nothing.
-ghost use Rattle.refutation.specs.Laws.{RefutedHasNoPoint, BoundedIsBoxed, OpenTreesAreBelowRoom, CutsLeaveProperHalves, KeyBoundsAreShort, RootsOfModelsStayOpen, ClosedByAtomsOfTheKey};
+ghost use Rattle.refutation.specs.Laws.{EachTreeHasOneAnswer, RefutedHasNoPoint, BoundedIsBoxed, OpenTreesAreBelowRoom, CutsLeaveProperHalves, KeyBoundsAreShort, RootsOfModelsStayOpen, ClosedByAtomsOfTheKey};
+
+/// Each tree refutes the key, fails at one node, ends early or goes on, and just one of these: so each has one answer of
+/// `refutes` that is right.
+pub fn each_tree_has_one_answer()
+    ensures { EachTreeHasOneAnswer }
+{}
 
 /// No point satisfies a key that some tree refutes.
 pub fn refuted_keys_have_no_point()
