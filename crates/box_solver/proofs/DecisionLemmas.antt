@@ -10,7 +10,7 @@ use Rattle.refutation.specs.Box.{PlainBox}
 use Rattle.refutation.specs.Laws.{ClosedByAtomsOfTheKey}
 use Rattle.refutation.specs.Leaf.{combo_closes, fixed_closes}
 use Rattle.refutation.specs.SearchOrder.{lowest_corner}
-use Rattle.refutation.specs.SearchTree.{halving, IsUndecided}
+use Rattle.refutation.specs.SearchTree.{IsUndecided}
 use Rattle.box_solver.specs.declared.one_atom.OneAtom.{OneAtom}
 use Rattle.box_solver.specs.declared.one_atom.OneAtom.TheVariants.{Term, Fixed as FixedAtom}
 use Rattle.box_solver.specs.OneAtom.{unit_term, ClosesBy, NoUnitCloses, NoAtomCloses}
@@ -51,6 +51,6 @@ holds_or_not (a ∷ key) point =
 -- ---- what a box asks for
 
 -- a box of the search is closed by one atom, its corner is a model, or it has to be split
-pub next_step : ClosedByAtomsOfTheKey → (key : List PlainKeyAtom) (box : PlainBox) → IsSearchBox key box → ((found : OneAtom) × ClosesBy key box found) ⊎ (KeyHolds key (lowest_corner key box.bounds) ⊎ IsUndecided halving key box)
+pub next_step : ClosedByAtomsOfTheKey → (key : List PlainKeyAtom) (box : PlainBox) → IsSearchBox key box → ((found : OneAtom) × ClosesBy key box found) ⊎ (KeyHolds key (lowest_corner key box.bounds) ⊎ IsUndecided key box)
 next_step by_key key box s =
     ⊎_elim inl (λ none. ⊎_elim (λ holds. inr (inl holds)) (λ fails. inr (inr (is_undecided by_key key box s none fails))) (holds_or_not key (lowest_corner key box.bounds))) (closed_or_not key box)

@@ -13,7 +13,7 @@ use Rattle.refutation.specs.Box.{PlainBox, root_box, left_half, right_half}
 use Rattle.refutation.specs.Boxed.{IsBoxed}
 use Rattle.refutation.specs.Laws.{OpenTreesAreBelowRoom, CutsLeaveProperHalves, KeyBoundsAreShort, ClosedByAtomsOfTheKey}
 use Rattle.refutation.specs.SearchOrder.{lowest_corner, middle}
-use Rattle.refutation.specs.SearchTree.{halving, IsUndecided}
+use Rattle.refutation.specs.SearchTree.{IsUndecided}
 use Rattle.box_solver.specs.declared.found.Found.TheVariants.{Model, Refuted, Spent}
 use Rattle.box_solver.specs.Laws.{HasAnswer}
 use Rattle.box_solver.specs.OneAtom.{node_by, terms_by}
@@ -50,7 +50,7 @@ modelled key budget splits nodes terms box rest h few holds = record {
   answer = model-tree key splits budget nodes terms (box ∷ rest) box rest (lowest_corner key box.bounds) h refl few refl (corner-point key box.bounds h.narrow (All-head (IsSearchBox key) box rest h.fit).short) holds;
 }
 
-spent : (key : List PlainKeyAtom) (budget splits : ℕ) (nodes : List Node) (terms : List LeafTerm) (box : PlainBox) (rest : List PlainBox) → IsSolvable key → HasRead key splits nodes terms (box ∷ rest) → splits ≡ budget → IsUndecided halving key box → HasAnswer key budget
+spent : (key : List PlainKeyAtom) (budget splits : ℕ) (nodes : List Node) (terms : List LeafTerm) (box : PlainBox) (rest : List PlainBox) → IsSolvable key → HasRead key splits nodes terms (box ∷ rest) → splits ≡ budget → IsUndecided key box → HasAnswer key budget
 spent key budget splits nodes terms box rest solvable h used undecided = record {
   found = Spent;
   nodes = nodes ++ replicate (length (box ∷ rest)) Left;

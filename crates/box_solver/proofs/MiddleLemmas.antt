@@ -9,7 +9,7 @@ use Rattle.refutation.specs.Bounds.{PlainBounds}
 use Rattle.refutation.specs.Box.{PlainBox}
 use Rattle.refutation.specs.Leaf.{ClosedByOneAtom, fixed, fixed_closes}
 use Rattle.refutation.specs.SearchOrder.{lower_or_zero, upper_or_zero, spread, middle}
-use Rattle.refutation.specs.SearchTree.{halving, IsUndecided}
+use Rattle.refutation.specs.SearchTree.{IsUndecided}
 use Rattle.refutation.specs.Halving.{IsWidest}
 use Rattle.refutation.specs.Boxed.{IsCut}
 use Rattle.box_solver.specs.Progress.{IsSearchBox}
@@ -60,11 +60,11 @@ half-high a b h = by_sum (a +ℤ b) refl
 pub no_fixed : (key : List PlainKeyAtom) (box : PlainBox) → (ClosedByOneAtom key box → ⊥) → (i : ℕ) → i < length key → fixed_closes key box.bounds i ≡ false
 no_fixed key box h i lt = false_from_ne_true (fixed_closes key box.bounds i) (λ is. h (fixed i, refl, is))
 
-pub some_width : (key : List PlainKeyAtom) (box : PlainBox) → key_width key ≤ 64 → IsSearchBox key box → IsUndecided halving key box → 0 < key_width key
+pub some_width : (key : List PlainKeyAtom) (box : PlainBox) → key_width key ≤ 64 → IsSearchBox key box → IsUndecided key box → 0 < key_width key
 some_width key box narrow s undecided =
     ⊎_elim (λ lt. lt) (λ le. absurd (undecided.corner_fails (flat-holds key box narrow s (λ v lt. absurd (omega arith)) (no_fixed key box undecided.not_by_one)))) (cases_lt 0 (key_width key))
 
-pub middle-cuts : (key : List PlainKeyAtom) (box : PlainBox) (v : ℕ) → key_width key ≤ 64 → IsSearchBox key box → IsUndecided halving key box → IsWidest box.bounds (key_width key) v → IsCut box.bounds v (lower_or_zero box.bounds v) (upper_or_zero box.bounds v) (middle box.bounds v)
+pub middle-cuts : (key : List PlainKeyAtom) (box : PlainBox) (v : ℕ) → key_width key ≤ 64 → IsSearchBox key box → IsUndecided key box → IsWidest box.bounds (key_width key) v → IsCut box.bounds v (lower_or_zero box.bounds v) (upper_or_zero box.bounds v) (middle box.bounds v)
 middle-cuts key box v narrow s undecided w =
     let wide = widest-wide key box v narrow s (no_fixed key box undecided.not_by_one) undecided.corner_fails w in
     let two = sides-of box.bounds v (s.boxed v w.below).lower (s.boxed v w.below).upper in
