@@ -1,4 +1,5 @@
 mod UnitTerms
+mod GlanceLemmas
 mod Worked
 mod WorkedCuts
 mod WorkedGlance

@@ -11,7 +11,8 @@ use Rattle.lin_model.specs.Key.{key_width}
 use Rattle.refutation.specs.Bounds.{PlainBounds, lower_of, upper_of, with_lower, with_upper, crosses, is_empty, tighter_lower, tighter_upper}
 use Rattle.refutation.specs.Box.{PlainBox}
 use Rattle.refutation.specs.Boxed.{IsBoxedIn, HasShortSides, IsCut}
-use Rattle.refutation.specs.Facts.{not_crossed}
+use Rattle.refutation.specs.Facts.{not_crossed, sides-of}
+use Rattle.refutation.specs.SearchOrder.{lower_or_zero, upper_or_zero}
 use Rattle.refutation.specs.Laws.{CutsLeaveProperHalves}
 use Rattle.refutation.specs.SearchTree.{number_between, points_over, IsFairSplit}
 use Rattle.refutation.proofs.Arithmetic.{int_lt-false}
@@ -156,10 +157,6 @@ points-some key b narrow boxed full =
 
 -- ---- a split into halves that aren't empty is such a cut
 
-side_value : (o : Option ℤ) → is_some o ≡ true → (n : ℤ) × (o ≡ Some n)
-side_value None h = absurd (cc)
-side_value (Some n) h = (n, refl)
-
 -- the lower half's sides don't cross, nor do the upper half's
 left-room : (b : PlainBounds) (v : ℕ) (lo hi cut : ℤ) → v < 64 → lower_of b v ≡ Some lo → upper_of b v ≡ Some hi → is_empty (with_upper b v cut) ≡ false → lo ≤ℤ cut
 left-room b v lo hi cut lt low high full =
@@ -175,16 +172,17 @@ right-room b v lo hi cut lt low high full =
 
 pub fair-cut : (key : List PlainKeyAtom) (box : PlainBox) (v : ℕ) (cut : ℤ) → key_width key ≤ 64 → IsBoxedIn key box.bounds → IsFairSplit key box v cut → (lo : ℤ) × (hi : ℤ) × IsCut box.bounds v lo hi cut
 fair-cut key box v cut narrow boxed fair =
-    let lo = side_value (lower_of box.bounds v) (boxed v fair.of_key).lower in
-    let hi = side_value (upper_of box.bounds v) (boxed v fair.of_key).upper in
+    let lo = lower_or_zero box.bounds v in
+    let hi = upper_or_zero box.bounds v in
+    let sides = sides-of box.bounds v (boxed v fair.of_key) in
     let lt : v < 64 = omega (arith, fair.of_key) in (
-      lo.0,
-      hi.0,
+      lo,
+      hi,
       record {
         below = lt;
-        lower = lo.1;
-        upper = hi.1;
-        from = left-room box.bounds v lo.0 hi.0 cut lt lo.1 hi.1 fair.left;
-        to = right-room box.bounds v lo.0 hi.0 cut lt lo.1 hi.1 fair.right;
+        lower = sides.0;
+        upper = sides.1;
+        from = left-room box.bounds v lo hi cut lt sides.0 sides.1 fair.left;
+        to = right-room box.bounds v lo hi cut lt sides.0 sides.1 fair.right;
       },
     )

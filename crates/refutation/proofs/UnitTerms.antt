@@ -18,19 +18,19 @@ use Rattle.refutation.proofs.LeafLemmas.{multiples_of-none}
 
 -- ---- what names nothing closes nothing
 
-combo_closes-unnamed : (key : List PlainKeyAtom) (box : PlainBox) (terms : List LeafTerm) (i : ℕ) (d : LeafTerm) → i < length terms → named key box.sides (get_or terms i d).on ≡ None → combo_closes key box terms ≡ false
+pub combo_closes-unnamed : (key : List PlainKeyAtom) (box : PlainBox) (terms : List LeafTerm) (i : ℕ) (d : LeafTerm) → i < length terms → named key box.sides (get_or terms i d).on ≡ None → combo_closes key box terms ≡ false
 unfolding combo_closes
 combo_closes-unnamed key box terms i d lt none =
     let no_multiple = ap (option_and_then (λ a. weighted a (get_or terms i d).factor)) none in
     let no_sum = ap (λ o. option_map_or (is_positive_sum box.bounds) o false) (multiples_of-none key box.sides terms i d lt no_multiple) in
     and_right (nat_le 1 (length terms)) _ (and_right (nat_le (length terms) 8) _ no_sum)
 
-fixed_closes-past : (key : List PlainKeyAtom) (b : PlainBounds) (i : ℕ) → length key ≤ i → fixed_closes key b i ≡ false
+pub fixed_closes-past : (key : List PlainKeyAtom) (b : PlainBounds) (i : ℕ) → length key ≤ i → fixed_closes key b i ≡ false
 unfolding fixed_closes
 fixed_closes-past key b i le =
     ap (λ (o : Option PlainKeyAtom). option_map_or (λ a. fails_fixed a (least a.form b) (greatest a.form b)) o false) (slice_get_past key i le)
 
-unit_factor : (f : ℤ) → (int_eq f (pos 1) || int_eq f (neg_ℤ (pos 1))) ≡ true → (f ≡ pos 1) ⊎ (f ≡ negsuc 0)
+pub unit_factor : (f : ℤ) → (int_eq f (pos 1) || int_eq f (neg_ℤ (pos 1))) ≡ true → (f ≡ pos 1) ⊎ (f ≡ negsuc 0)
 unit_factor f h =
     ⊎_elim (λ one. inl ((Decides-int_eq f (pos 1)).0 one)) (λ minus. inr ((Decides-int_eq f (neg_ℤ (pos 1))).0 minus)) (or_cases (int_eq f (pos 1)) (int_eq f (neg_ℤ (pos 1))) h)
 

@@ -65,10 +65,6 @@ pub waiting-over : (turns before : List Turn) (turn next : Turn) (at box new : P
 waiting-over turns before turn next at box new whole popped undone moved h =
     ap (λ (bs : List PlainBox). new ∷ bs) (waiting-push turns next box new [] moved.1 moved.2) ∙ sym (ap (λ (ts : List Turn). waiting (reverse ts) at) popped ∙ waiting-push turns turn box at (new ∷ []) (sym undone) moved.0) ∙ h
 
-pub none_of_len : (turns : List Turn) → length turns ≡ 0 → turns ≡ []
-none_of_len [] h = refl
-none_of_len (t ∷ turns) h = absurd (omega arith)
-
 -- ---- what the walk's calls do to the list
 
 pub walk-split : (open_ : Bool) (turns turns' : List Turn) (bounds bounds' : PlainBounds) (sides : List Side) (box : PlainBox) (rest : List PlainBox) (v : ℕ) (cut : ℤ) (upper : Option ℤ) → upper ≡ upper_of bounds v → turns' ≡ turns ++ SplitLeft v cut upper ∷ [] → bounds' ≡ with_upper bounds v cut → undecided open_ turns (record { bounds = bounds; sides = sides }) ≡ box ∷ rest → undecided open_ turns' (record { bounds = bounds'; sides = sides }) ≡ left_half box v cut ∷ right_half box v cut ∷ rest

@@ -1,11 +1,14 @@
 -- What follows from the list of all variables, the definition of an empty box and a walk with a first box: for the proofs
 -- of the crates above.
-use Rattle.std.proofs.Common.{◌≡◌, ℕ, ◌<◌, ◌∙◌, List, [], ◌∷◌, true, false, length, get_or, refl, subst, arith}
+use Rattle.std.proofs.Common.{◌≡◌, ℕ, ℤ, pos, Option, Some, None, is_some, ◌<◌, ◌∙◌, List, [], ◌∷◌, true, false, length, get_or, refl, subst, arith}
+use Rattle.std.specs.Option.{unwrap_or}
 use Rattle.std.proofs.lemmas.Bool.{both_ways, false_from_ne_true}
 use Rattle.std.proofs.lemmas.List.Folds.{list_any-from_Any}
 use Rattle.std.proofs.lemmas.List.FromFn.{get_or-range_with_len, length-range_with_len}
 use Rattle.refutation.specs.Bounds.{PlainBounds, lower_of, upper_of, variables, crosses, is_empty}
 use Rattle.refutation.specs.Box.{PlainBox}
+use Rattle.refutation.specs.Boxed.{HasBothSides}
+use Rattle.refutation.specs.SearchOrder.{lower_or_zero, upper_or_zero}
 use Rattle.refutation.specs.Walk.{OnFirst}
 
 -- the list of all variables has each at its place
@@ -27,6 +30,15 @@ is_empty-true b v lt h =
 -- the sides of a box that isn't empty don't cross
 pub not_crossed : (b : PlainBounds) (v : ℕ) → v < 64 → is_empty b ≡ false → crosses (lower_of b v) (upper_of b v) ≡ false
 not_crossed b v lt full = false_from_ne_true (crosses (lower_of b v) (upper_of b v)) (λ is. both_ways (is_empty b) full (is_empty-true b v lt is))
+
+-- both sides of a variable, by their values
+pub sides-of : (b : PlainBounds) (v : ℕ) → HasBothSides b v
+    → (lower_of b v ≡ Some (lower_or_zero b v)) × (upper_of b v ≡ Some (upper_or_zero b v))
+sides-of b v has = (there (lower_of b v) has.lower, there (upper_of b v) has.upper)
+  where
+    there : (o : Option ℤ) → is_some o ≡ true → o ≡ Some (unwrap_or o (pos 0))
+    there None h = absurd (cc)
+    there (Some x) h = refl
 
 -- what holds of the first box, where it is this one
 pub OnFirst-at : (boxes : List PlainBox) (P : PlainBox → List PlainBox → Type 0) (box : PlainBox) (rest : List PlainBox)

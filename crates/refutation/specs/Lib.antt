@@ -2,6 +2,7 @@ pub mod Bounds
 pub mod Box
 pub mod Boxed
 pub mod Leaf
+pub mod Glance
 pub mod Sum
 pub mod Reading
 pub mod Tree

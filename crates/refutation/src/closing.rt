@@ -1,10 +1,10 @@
 //! What closes a box: an empty box, a sum that is positive all over it, or a form with one value that fails its test.
 
 ghost use Rattle.std.specs.Prelude.{◌≡◌, ◌+◌, ◌^◌, ◌<◌, ◌≤◌, unsigned_abs, slice_get, IfSome};
-ghost use Rattle.std.specs.Option.{option_copied};
+ghost use Rattle.std.specs.Option.{option_copied, option_and_then};
 ghost use Rattle.lin_model.specs.KeyAtom.{IsCanonical, IsCanonicalForm};
 ghost use Rattle.lin_model.specs.Test.{passes};
-ghost use Rattle.refutation.specs.Box.{beside};
+ghost use Rattle.refutation.specs.Box.{beside, side_atom};
 ghost use Rattle.refutation.specs.Leaf.{closes, leaf_of, combo_closes, fixed_closes, fails_fixed, multiple_of, weighted, weight};
 ghost use Rattle.refutation.specs.Sum.{AddsIfSome};
 
@@ -81,16 +81,40 @@ fn add_term(sum: &mut Sum, key: &Key, sides: &[Side], term: LeafTerm) -> bool
     ensures { AddsIfSome (multiple_of key.now sides.now term) sum.old sum.new result }
 {
     match term.on {
-        On::Atom(number) => match atom_at(key, number) {
+        On::Atom(number) => add_numbered_atom(sum, key, usize::from(number), term.factor),
+        On::Side(number) => add_numbered_side(sum, key, sides, usize::from(number), term.factor),
+    }
+}
+
+/// Adds the multiple of the atom of this number; false where there is none or its factor isn't lawful.
+pub fn add_numbered_atom(sum: &mut Sum, key: &Key, number: usize, factor: i64) -> bool
+    requires { sum.old.count < 8 }
+    ensures { AddsIfSome (option_and_then (λ a. weighted a factor) (slice_get key.now number)) sum.old sum.new result }
+{
+    match key.atoms().get(number) {
+        None => false,
+        Some(atom) => add_atom(sum, atom, factor),
+    }
+}
+
+/// Adds the multiple of the side of this number; false where there is none, it names no atom or its factor isn't lawful.
+pub fn add_numbered_side(
+    sum: &mut Sum,
+    key: &Key,
+    sides: &[Side],
+    number: usize,
+    factor: i64,
+) -> bool
+    requires { sum.old.count < 8 }
+    ensures { AddsIfSome
+        (option_and_then (λ a. weighted a factor) (option_and_then (side_atom key.now) (slice_get sides.now number)))
+        sum.old sum.new result }
+{
+    match sides.get(number) {
+        None => false,
+        Some(side) => match atom_at(key, side.atom) {
             None => false,
-            Some(atom) => add_atom(sum, atom, term.factor),
-        },
-        On::Side(number) => match sides.get(usize::from(number)) {
-            None => false,
-            Some(side) => match atom_at(key, side.atom) {
-                None => false,
-                Some(atom) => add_side(sum, atom, side.upper, term.factor),
-            },
+            Some(atom) => add_side(sum, atom, side.upper, factor),
         },
     }
 }

@@ -5,6 +5,7 @@ mod bounds;
 mod checker;
 mod closing;
 mod fault;
+mod glance;
 mod laws;
 mod leaf;
 mod node;
@@ -22,6 +23,7 @@ pub use bounds::Bounds;
 pub use checker::refutes;
 pub use closing::closes;
 pub use fault::TreeFault;
+pub use glance::{closed_by_one_atom, closed_by_sum_of_two};
 pub use laws::{
     bounded_keys_are_boxed, closed_by_atoms_of_the_key, cuts_leave_proper_halves,
     each_tree_has_one_answer, key_bounds_are_short, open_trees_are_below_room,

@@ -1,9 +1,10 @@
 use Rattle.std.proofs.Common.{Option, Some, List, true, subst, sym, ap, ◌∙◌, arith}
+use Rattle.std.proofs.lemmas.List.{nil_from_length}
 use Rattle.std.proofs.lemmas.List.Elements.{All-pop}
 use Rattle.refutation.specs.declared.turn.Turn.{Turn}
 use Rattle.refutation.specs.Box.{PlainBox}
 use Rattle.refutation.specs.Walk.{IsTurn, MovesOn, undecided}
-use Rattle.refutation.proofs.WalkLemmas.{waiting-back, waiting-over, waiting-none, none_of_len}
+use Rattle.refutation.proofs.WalkLemmas.{waiting-back, waiting-over, waiting-none}
 use Rattle.refutation.proofs.walk.next_box.Goals as goal
 
 pub loop-turn-preserved : goal.loop-turn-preserved
@@ -21,5 +22,5 @@ returns-in-Some-2-clause-next c =
 
 pub returns-clause-next : goal.returns-clause-next
 returns-clause-next c =
-    let none = none_of_len c.loop-turn.path.items (omega (arith, (c.in_default.ensures {u = tt}).cases, c.loop-turn.path.ok.0)) in
+    let none = nil_from_length c.loop-turn.path.items (omega (arith, (c.in_default.ensures {u = tt}).cases, c.loop-turn.path.ok.0)) in
     sym (waiting-none c.loop-turn.path.items (record { bounds = c.loop-turn.bounds; sides = c.loop-turn.sides.items }) none) ∙ c.loop-turn.invariant.boxes
