@@ -1,5 +1,5 @@
 -- Where every variable has one value, no atom with one value fails exactly where the corner satisfies the key.
-use Rattle.std.proofs.Common.{◌≡◌, ℕ, zero, suc, ◌^◌, ◌<◌, ◌≤◌, ℤ, pos, negsuc, ◌*ℤ◌, ◌≤ℤ◌, ◌<ℤ◌, Bool, true, false, not, ◌&&◌, Option, Some, None, IfSome, is_some, IsTrue, List, [], ◌∷◌, length, get_or, slice_get, unsigned_abs, refl, ap, sym, ◌∙◌, subst, arith, int_lt}
+use Rattle.std.proofs.Common.{◌≡◌, ℕ, zero, suc, ◌^◌, ◌<◌, ◌≤◌, ℤ, pos, negsuc, ◌*ℤ◌, ◌≤ℤ◌, ◌<ℤ◌, Bool, true, false, not, ◌&&◌, Option, Some, None, IfSome, IsTrue, List, [], ◌∷◌, length, get_or, slice_get, unsigned_abs, refl, ap, sym, ◌∙◌, subst, arith, int_lt}
 use Rattle.std.specs.List.{All}
 use Rattle.std.specs.Option.{option_map_or, unwrap_or}
 use Rattle.std.specs.Ordering.{int_eq}
@@ -18,7 +18,7 @@ use Rattle.refutation.specs.Boxed.{HasShortSides}
 use Rattle.refutation.specs.Leaf.{fixed_closes, fails_fixed}
 use Rattle.refutation.specs.SearchOrder.{lowest_corner, lower_or_zero, upper_or_zero, spread}
 use Rattle.refutation.specs.Halving.{IsWidest}
-use Rattle.refutation.specs.Facts.{not_crossed}
+use Rattle.refutation.specs.Facts.{not_crossed, sides-of}
 use Rattle.box_solver.specs.OneAtom.{NoFixedCloses}
 use Rattle.box_solver.specs.Progress.{IsSearchBox}
 
@@ -101,14 +101,6 @@ pinned-holds key b pinned none k d lt =
 
 -- ---- the widest variable of a box that has to be split
 
--- both sides by their values
-pub sides-of : (b : PlainBounds) (v : ℕ) → is_some (lower_of b v) ≡ true → is_some (upper_of b v) ≡ true → (lower_of b v ≡ Some (lower_or_zero b v)) × (upper_of b v ≡ Some (upper_or_zero b v))
-sides-of b v f g = (there (lower_of b v) f, there (upper_of b v) g)
-  where
-    there : (o : Option ℤ) → is_some o ≡ true → o ≡ Some (unwrap_or o (pos 0))
-    there None h = absurd (cc)
-    there (Some x) h = refl
-
 ordered : (b : PlainBounds) (v : ℕ) (lo hi : ℤ) → lower_of b v ≡ Some lo → upper_of b v ≡ Some hi → crosses (lower_of b v) (upper_of b v) ≡ false → lo ≤ℤ hi
 ordered b v lo hi f g h =
     let test : int_lt hi lo ≡ false = ap (λ (o : Option ℤ). crosses o (Some hi)) (sym f) ∙ ap (crosses (lower_of b v)) (sym g) ∙ h in
@@ -121,7 +113,7 @@ flat-holds key box narrow s flat none =
   where
     pinned : (v : ℕ) → v < key_width key → Pinned box.bounds v (value_at (lowest_corner key box.bounds) v)
     pinned v lt =
-        let two = sides-of box.bounds v (s.boxed v lt).lower (s.boxed v lt).upper in
+        let two = sides-of box.bounds v (s.boxed v lt) in
         let low = ordered box.bounds v (lower_or_zero box.bounds v) (upper_or_zero box.bounds v) two.0 two.1 (not_crossed box.bounds v (omega arith) s.not_empty) in
         let one : upper_or_zero box.bounds v ≡ lower_or_zero box.bounds v = omega (arith, ints, flat v lt) in
         (two.0 ∙ ap Some (sym (corner-at key box.bounds v lt)), two.1 ∙ ap Some (one ∙ sym (corner-at key box.bounds v lt)))

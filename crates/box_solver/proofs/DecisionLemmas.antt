@@ -7,13 +7,13 @@ use Rattle.lin_model.specs.Key.{KeyHolds}
 use Rattle.lin_model.specs.Form.{form_value}
 use Rattle.lin_model.specs.Test.{passes}
 use Rattle.refutation.specs.Box.{PlainBox}
-use Rattle.refutation.specs.Laws.{ClosedByAtomsOfTheKey}
+use Rattle.refutation.specs.Laws.{ClosedByAtomsOfTheKey, NoAtomOfTheKeyCloses}
 use Rattle.refutation.specs.Leaf.{combo_closes, fixed_closes}
 use Rattle.refutation.specs.SearchOrder.{lowest_corner}
 use Rattle.refutation.specs.SearchTree.{IsUndecided}
 use Rattle.box_solver.specs.declared.one_atom.OneAtom.{OneAtom}
 use Rattle.box_solver.specs.declared.one_atom.OneAtom.TheVariants.{Term, Fixed as FixedAtom}
-use Rattle.box_solver.specs.OneAtom.{unit_term, ClosesBy, NoUnitCloses, NoAtomCloses}
+use Rattle.box_solver.specs.OneAtom.{unit_term, ClosesBy, NoUnitCloses}
 use Rattle.box_solver.specs.Progress.{IsSearchBox}
 use Rattle.box_solver.proofs.StateLemmas.{is_undecided}
 
@@ -28,9 +28,9 @@ search_below P Q (suc n) test =
 -- ---- one box
 
 -- one atom closes the box, or none does
-closed_or_not : (key : List PlainKeyAtom) (box : PlainBox) → ((found : OneAtom) × ClosesBy key box found) ⊎ NoAtomCloses key box
+closed_or_not : (key : List PlainKeyAtom) (box : PlainBox) → ((found : OneAtom) × ClosesBy key box found) ⊎ NoAtomOfTheKeyCloses key box
 closed_or_not key box =
-    ⊎_elim (λ closed. inl closed.2) (λ no_term. ⊎_elim (λ fixed. inl (FixedAtom fixed.0, fixed.2)) (λ no_fixed'. inr (record { no_term = no_term; no_fixed = no_fixed' })) by_value) by_term
+    ⊎_elim (λ closed. inl closed.2) (λ no_term. ⊎_elim (λ fixed. inl (FixedAtom fixed.0, fixed.2)) (λ no_fixed'. inr (record { positive = λ i lt. (no_term i lt).positive; negative = λ i lt. (no_term i lt).negative; no_fixed = no_fixed' })) by_value) by_term
   where
     unit : (i : ℕ) → ((found : OneAtom) × ClosesBy key box found) ⊎ NoUnitCloses key box i
     unit i =

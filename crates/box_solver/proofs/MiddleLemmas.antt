@@ -10,10 +10,11 @@ use Rattle.refutation.specs.Box.{PlainBox}
 use Rattle.refutation.specs.Leaf.{ClosedByOneAtom, fixed, fixed_closes}
 use Rattle.refutation.specs.SearchOrder.{lower_or_zero, upper_or_zero, spread, middle}
 use Rattle.refutation.specs.SearchTree.{IsUndecided}
+use Rattle.refutation.specs.Facts.{sides-of}
 use Rattle.refutation.specs.Halving.{IsWidest}
 use Rattle.refutation.specs.Boxed.{IsCut}
 use Rattle.box_solver.specs.Progress.{IsSearchBox}
-use Rattle.box_solver.proofs.CornerLemmas.{widest-wide, flat-holds, sides-of}
+use Rattle.box_solver.proofs.CornerLemmas.{widest-wide, flat-holds}
 
 -- ---- the widest variable
 
@@ -67,7 +68,7 @@ some_width key box narrow s undecided =
 pub middle-cuts : (key : List PlainKeyAtom) (box : PlainBox) (v : ℕ) → key_width key ≤ 64 → IsSearchBox key box → IsUndecided key box → IsWidest box.bounds (key_width key) v → IsCut box.bounds v (lower_or_zero box.bounds v) (upper_or_zero box.bounds v) (middle box.bounds v)
 middle-cuts key box v narrow s undecided w =
     let wide = widest-wide key box v narrow s (no_fixed key box undecided.not_by_one) undecided.corner_fails w in
-    let two = sides-of box.bounds v (s.boxed v w.below).lower (s.boxed v w.below).upper in
+    let two = sides-of box.bounds v (s.boxed v w.below) in
     let less : lower_or_zero box.bounds v <ℤ upper_or_zero box.bounds v = omega (arith, ints, wide) in
     record {
       below = omega (arith, w.below);

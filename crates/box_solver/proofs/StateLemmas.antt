@@ -9,16 +9,15 @@ use Rattle.refutation.specs.declared.node.Node.TheVariants.{Split}
 use Rattle.refutation.specs.Bounds.{key_bounds, is_empty}
 use Rattle.refutation.specs.Box.{PlainBox, root_box, left_half, right_half}
 use Rattle.refutation.specs.Boxed.{IsBoxed, HasShortSides}
-use Rattle.refutation.specs.Laws.{CutsLeaveProperHalves, ClosedByAtomsOfTheKey}
+use Rattle.refutation.specs.Laws.{CutsLeaveProperHalves, ClosedByAtomsOfTheKey, NoAtomOfTheKeyCloses}
 use Rattle.refutation.specs.SearchOrder.{lowest_corner, middle}
 use Rattle.refutation.specs.SearchTree.{IsUndecided}
 use Rattle.refutation.specs.Halving.{IsWidest}
 use Rattle.refutation.specs.Tree.{PlainTree}
 use Rattle.box_solver.specs.Region.{Adds}
 use Rattle.box_solver.specs.declared.one_atom.OneAtom.{OneAtom}
-use Rattle.box_solver.specs.OneAtom.{node_by, terms_by, ClosesBy, NoAtomCloses}
+use Rattle.box_solver.specs.OneAtom.{node_by, terms_by, ClosesBy}
 use Rattle.box_solver.specs.Progress.{IsSearchBox, HasRead, IsAt, FirstIsSplit}
-use Rattle.box_solver.proofs.OneAtomLemmas.{not_by_one}
 use Rattle.box_solver.proofs.RegionLemmas.{adds-adds}
 use Rattle.box_solver.proofs.StepLemmas.{read-start, read-closed, read-split}
 
@@ -67,5 +66,5 @@ pub split-first : (key : List PlainKeyAtom) (boxes : List PlainBox) → FirstIsS
 split-first key [] h = absurd h
 split-first key (box ∷ boxes) h = (box, boxes, refl, h.0, h.1)
 
-pub is_undecided : ClosedByAtomsOfTheKey → (key : List PlainKeyAtom) (box : PlainBox) → IsSearchBox key box → NoAtomCloses key box → (KeyHolds key (lowest_corner key box.bounds) → ⊥) → IsUndecided key box
-is_undecided by_key key box s none fails = record { not_by_one = not_by_one by_key key box s.no_sides s.not_empty none; not_by_two = tt; corner_fails = fails }
+pub is_undecided : ClosedByAtomsOfTheKey → (key : List PlainKeyAtom) (box : PlainBox) → IsSearchBox key box → NoAtomOfTheKeyCloses key box → (KeyHolds key (lowest_corner key box.bounds) → ⊥) → IsUndecided key box
+is_undecided by_key key box s none fails = record { not_by_one = by_key key box s.no_sides s.not_empty none; not_by_two = tt; corner_fails = fails }
