@@ -1,21 +1,22 @@
 -- What is tried of a box at a glance is what closes it: one atom or side, or two.
-use Rattle.std.proofs.Common.{◌≡◌, ◌⊎◌, inl, inr, ⊎_elim, ℕ, ◌+◌, ◌-◌, ◌<◌, ◌≤◌, ℤ, pos, negsuc, Bool, true, false, cond, ◌||◌, Option, None, List, [], ◌∷◌, length, get_or, refl, ap, sym, subst, ◌∙◌, arith}
+use Rattle.std.proofs.Common.{◌≡◌, ◌⊎◌, inl, inr, ⊎_elim, ℕ, ◌+◌, ◌-◌, ◌<◌, ◌≤◌, ℤ, pos, negsuc, Bool, true, false, cond, ◌||◌, Option, None, List, [], ◌∷◌, length, get_or, nat_le, neg_ℤ, refl, ap, sym, subst, ◌∙◌, arith}
 use Rattle.std.specs.Prelude.{IsTrue, ◌↔◌}
 use Rattle.std.specs.Option.{option_map_or, option_and_then}
-use Rattle.std.proofs.lemmas.Bool.{and_parts, and_from, or_left, or_right, or_cases, both_ways, cases_lt, lt-ltb, le-ltb}
+use Rattle.std.proofs.lemmas.Bool.{and_parts, and_from, or_left, or_right, or_cases, and_right, both_ways, cases_lt, lt-ltb, le-ltb}
+use Rattle.std.proofs.lemmas.Bool.Decides.{Decides-int_eq}
 use Rattle.std.proofs.lemmas.Option.{slice_get_past}
+use Rattle.std.specs.Ordering.{int_eq}
 use Rattle.lin_model.specs.KeyAtom.{PlainKeyAtom}
 use Rattle.refutation.specs.declared.leaf.LeafTerm.{LeafTerm}
 use Rattle.refutation.specs.declared.leaf.On.{On}
 use Rattle.refutation.specs.declared.leaf.On.TheVariants.{Atom as OnAtom, Side as OnSide}
 use Rattle.refutation.specs.declared.side.Side.{Side}
-use Rattle.refutation.specs.Bounds.{is_empty}
+use Rattle.refutation.specs.Bounds.{PlainBounds, is_empty, least, greatest}
 use Rattle.refutation.specs.Box.{PlainBox, side_atom}
 use Rattle.refutation.specs.Glance.{SomeBelow, place_count, on_place, term_at, closes_alone, close_together, closes_with, SomeUnitCloses, SomePairCloses}
-use Rattle.refutation.specs.Leaf.{PlainLeaf, Multiple, combo, fixed, empty, closes, named, multiple_of, is_positive_sum, is_unit, combo_closes, fixed_closes, is_by_one, is_sum_of_two, ClosedByOneAtom, ClosedBySumOfTwo}
+use Rattle.refutation.specs.Leaf.{PlainLeaf, Multiple, combo, fixed, empty, closes, named, multiple_of, is_positive_sum, is_unit, weighted, fails_fixed, combo_closes, fixed_closes, is_by_one, is_sum_of_two, ClosedByOneAtom, ClosedBySumOfTwo}
 use Rattle.refutation.specs.Sum.{PlainSum, is_positive_within, AddsIfSome}
-use Rattle.refutation.proofs.LeafLemmas.{IsSummed, IsSummed-more, IsSummed-positive, multiples_of-fails, combo_closes-is}
-use Rattle.refutation.proofs.UnitTerms.{combo_closes-unnamed, fixed_closes-past, unit_factor}
+use Rattle.refutation.proofs.LeafLemmas.{multiples_of-none, IsSummed, IsSummed-more, IsSummed-positive, multiples_of-fails, combo_closes-is}
 
 -- ---- sums of one and two terms
 
@@ -49,6 +50,24 @@ adds-as key sides place passed factor old new added same h = subst (λ (f : ℤ)
 -- none so far, and there are no more
 pub none_below : (P : ℕ → Type 0) (n m : ℕ) → n ≤ m → ((k : ℕ) → k < m → P k → ⊥) → IsTrue false ↔ SomeBelow P n
 none_below P n m le none = (λ yes'. absurd (cc), λ h. absurd (none h.number (omega (arith, h.below)) h.holds))
+
+-- ---- what names nothing closes nothing
+
+combo_closes-unnamed : (key : List PlainKeyAtom) (box : PlainBox) (terms : List LeafTerm) (i : ℕ) (d : LeafTerm) → i < length terms → named key box.sides (get_or terms i d).on ≡ None → combo_closes key box terms ≡ false
+unfolding combo_closes
+combo_closes-unnamed key box terms i d lt none =
+    let no_multiple = ap (option_and_then (λ a. weighted a (get_or terms i d).factor)) none in
+    let no_sum = ap (λ o. option_map_or (is_positive_sum box.bounds) o false) (multiples_of-none key box.sides terms i d lt no_multiple) in
+    and_right (nat_le 1 (length terms)) _ (and_right (nat_le (length terms) 8) _ no_sum)
+
+fixed_closes-past : (key : List PlainKeyAtom) (b : PlainBounds) (i : ℕ) → length key ≤ i → fixed_closes key b i ≡ false
+unfolding fixed_closes
+fixed_closes-past key b i le =
+    ap (λ (o : Option PlainKeyAtom). option_map_or (λ a. fails_fixed a (least a.form b) (greatest a.form b)) o false) (slice_get_past key i le)
+
+unit_factor : (f : ℤ) → (int_eq f (pos 1) || int_eq f (neg_ℤ (pos 1))) ≡ true → (f ≡ pos 1) ⊎ (f ≡ negsuc 0)
+unit_factor f h =
+    ⊎_elim (λ one. inl ((Decides-int_eq f (pos 1)).0 one)) (λ minus. inr ((Decides-int_eq f (neg_ℤ (pos 1))).0 minus)) (or_cases (int_eq f (pos 1)) (int_eq f (neg_ℤ (pos 1))) h)
 
 -- ---- the row of atoms and sides
 
