@@ -24,7 +24,8 @@ record Stops (r : TreeReading) (nodes : List Node) (boxes : List PlainBox) (term
   terms_left : r.terms ≡ terms
 
 -- that answer is right
-right : (key : List PlainKeyAtom) (nodes : List Node) (terms : List LeafTerm) (rest : List Node) (boxes : List PlainBox) (left : List LeafTerm)
+right : (key : List PlainKeyAtom) (nodes : List Node) (terms : List LeafTerm) (rest : List Node) (boxes : List PlainBox)
+    (left : List LeafTerm)
     → Stops (strict_reading key nodes terms) rest boxes left
     → IsTreeAnswer key nodes terms (answer rest boxes left (length (strict_reading key nodes terms).met))
 unfolding answer
@@ -36,30 +37,43 @@ right key nodes terms [] (box ∷ boxes) left s =
 right key nodes terms (node ∷ rest) [] left s =
     record { no_boxes = s.boxes_left; some_left = inl (λ e. let is = s.rest in absurd (cc)) }
 right key nodes terms (node ∷ rest) (box ∷ boxes) left s =
-    record { before = refl; some_rest = λ e. let is = s.rest in absurd (cc); some_boxes = λ e. let is = s.boxes_left in absurd (cc) }
+    record {
+      before =
+          refl;
+      some_rest = λ e. let is = s.rest in absurd (cc);
+      some_boxes = λ e. let is = s.boxes_left in absurd (cc);
+    }
 
 -- and no other
-alone : (key : List PlainKeyAtom) (nodes : List Node) (terms : List LeafTerm) (rest : List Node) (boxes : List PlainBox) (left : List LeafTerm)
-    (other : Result (Unit {0}) TreeFault) → Stops (strict_reading key nodes terms) rest boxes left → IsTreeAnswer key nodes terms other
+alone : (key : List PlainKeyAtom) (nodes : List Node) (terms : List LeafTerm) (rest : List Node) (boxes : List PlainBox)
+    (left : List LeafTerm)
+    (other : Result (Unit {0}) TreeFault) → Stops (strict_reading key nodes terms) rest boxes left
+    → IsTreeAnswer key nodes terms other
     → other ≡ answer rest boxes left (length (strict_reading key nodes terms).met)
 unfolding answer
 alone key nodes terms [] [] [] (Ok u) s h = refl
 alone key nodes terms [] [] (t ∷ left) (Ok u) s h = let is = s.terms_left in let no_terms = h.no_terms in absurd (cc)
-alone key nodes terms [] (box ∷ boxes) left (Ok u) s h = let is = s.boxes_left in let no_boxes = h.no_boxes in absurd (cc)
+alone key nodes terms [] (box ∷ boxes) left (Ok u) s h =
+    let is = s.boxes_left in let no_boxes = h.no_boxes in absurd (cc)
 alone key nodes terms (node ∷ rest) boxes left (Ok u) s h = let is = s.rest in let no_rest = h.no_rest in absurd (cc)
 alone key nodes terms [] boxes left (Err (NodeFails i)) s h = absurd (h.some_rest s.rest)
 alone key nodes terms (node ∷ rest) [] left (Err (NodeFails i)) s h = absurd (h.some_boxes s.boxes_left)
-alone key nodes terms (node ∷ rest) (box ∷ boxes) left (Err (NodeFails i)) s h = ap (λ (n : ℕ). Err (NodeFails n)) (sym h.before)
+alone key nodes terms (node ∷ rest) (box ∷ boxes) left (Err (NodeFails i)) s h =
+    ap (λ (n : ℕ). Err (NodeFails n)) (sym h.before)
 alone key nodes terms [] [] left (Err TreeEnds) s h = absurd (h.some_boxes s.boxes_left)
 alone key nodes terms [] (box ∷ boxes) left (Err TreeEnds) s h = refl
-alone key nodes terms (node ∷ rest) boxes left (Err TreeEnds) s h = let is = s.rest in let no_rest = h.no_rest in absurd (cc)
-alone key nodes terms [] [] [] (Err TreeGoesOn) s h = absurd (⊎_elim (λ some. some s.rest) (λ some. some s.terms_left) h.some_left)
+alone key nodes terms (node ∷ rest) boxes left (Err TreeEnds) s h =
+    let is = s.rest in let no_rest = h.no_rest in absurd (cc)
+alone key nodes terms [] [] [] (Err TreeGoesOn) s h =
+    absurd (⊎_elim (λ some. some s.rest) (λ some. some s.terms_left) h.some_left)
 alone key nodes terms [] [] (t ∷ left) (Err TreeGoesOn) s h = refl
-alone key nodes terms rest (box ∷ boxes) left (Err TreeGoesOn) s h = let is = s.boxes_left in let no_boxes = h.no_boxes in absurd (cc)
+alone key nodes terms rest (box ∷ boxes) left (Err TreeGoesOn) s h =
+    let is = s.boxes_left in let no_boxes = h.no_boxes in absurd (cc)
 alone key nodes terms (node ∷ rest) [] left (Err TreeGoesOn) s h = refl
 alone key nodes terms rest boxes left (Err NoMemory) s h = absurd h
 
-pub one_answer : (key : List PlainKeyAtom) (nodes : List Node) (terms : List LeafTerm) → HasOneTreeAnswer key nodes terms
+pub one_answer : (key : List PlainKeyAtom) (nodes : List Node) (terms : List LeafTerm)
+    → HasOneTreeAnswer key nodes terms
 one_answer key nodes terms =
     let r = strict_reading key nodes terms in
     let s : Stops r r.rest r.boxes r.terms = record { rest = refl; boxes_left = refl; terms_left = refl } in

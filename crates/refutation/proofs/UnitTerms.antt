@@ -1,5 +1,7 @@
--- What neither one atom nor the sum of two closes, by tests that compute; and that atoms of the key alone do it where there are no sides.
-use Rattle.std.proofs.Common.{◌≡◌, ⊎_elim, ℕ, zero, suc, ◌-◌, ◌<◌, pos, negsuc, Bool, true, false, cond, not, ◌&&◌, List, [], ◌∷◌, length, ap, sym, subst, ◌∙◌, arith}
+-- What neither one atom nor the sum of two closes, by tests that compute; and that atoms of the key alone do it where
+-- there are no sides.
+use Rattle.std.proofs.Common.{◌≡◌, ⊎_elim, ℕ, zero, suc, ◌-◌, ◌<◌, pos, negsuc, Bool, true, false, cond, not, ◌&&◌}
+use Rattle.std.proofs.Common.{List, [], ◌∷◌, length, ap, sym, subst, ◌∙◌, arith}
 use Rattle.std.specs.Prelude.{IsTrue}
 use Rattle.std.proofs.lemmas.Bool.{and_parts, or_cases, not-true, both_ways, cases_eq, lt-ltb}
 use Rattle.lin_model.specs.KeyAtom.{PlainKeyAtom}
@@ -22,11 +24,15 @@ each_below-at : (test : ℕ → Bool) (n i : ℕ) → each_below test n ≡ true
 each_below-at test zero i all lt = absurd (omega arith)
 each_below-at test (suc n) i all lt =
     let two = and_parts (test n) (each_below test n) all in
-    ⊎_elim (λ same. subst (λ k. test k ≡ true) (sym same) two.0) (λ other. each_below-at test n i two.1 (omega (arith, other))) (cases_eq i n)
+    ⊎_elim (λ same. subst (λ k. test k ≡ true) (sym same) two.0)
+    (λ other. each_below-at test n i two.1 (omega (arith, other))) (cases_eq i n)
 
 -- where each fails a test, none passes it
-none_passes : (test : ℕ → Bool) (n : ℕ) → each_below (λ i. not (test i)) n ≡ true → SomeBelow (λ i. IsTrue (test i)) n → ⊥
-none_passes test n all some = both_ways (test some.number) (not-true (test some.number) (each_below-at (λ i. not (test i)) n some.number all some.below)) some.holds
+none_passes : (test : ℕ → Bool) (n : ℕ) → each_below (λ i. not (test i)) n ≡ true → SomeBelow (λ i. IsTrue (test i)) n
+    → ⊥
+none_passes test n all some =
+    both_ways (test some.number) (not-true (test some.number)
+    (each_below-at (λ i. not (test i)) n some.number all some.below)) some.holds
 
 -- ---- one atom
 
@@ -37,27 +43,40 @@ no_unit_closes key box = each_below (λ place. not (unit_closes key box place)) 
 abbrev pub no_fixed_closes : List PlainKeyAtom → PlainBox → Bool
 no_fixed_closes key box = each_below (λ i. not (fixed_closes key box.bounds i)) (length key)
 
-pub not_by_one : (key : List PlainKeyAtom) (box : PlainBox) → is_empty box.bounds ≡ false → no_unit_closes key box ≡ true → no_fixed_closes key box ≡ true → ¬ ClosedByOneAtom key box
+pub not_by_one : (key : List PlainKeyAtom) (box : PlainBox) → is_empty box.bounds ≡ false
+    → no_unit_closes key box ≡ true → no_fixed_closes key box ≡ true → ¬ ClosedByOneAtom key box
 not_by_one key box full units values closed =
-    none_passes (unit_closes key box) (place_count key box.sides) units (unit-from_one key box full (none_passes (fixed_closes key box.bounds) (length key) values) closed)
+    none_passes (unit_closes key box) (place_count key box.sides) units
+    (unit-from_one key box full (none_passes (fixed_closes key box.bounds) (length key) values) closed)
 
 -- ---- one atom of the key
 
 pub by_atoms_of_key : ClosedByAtomsOfTheKey
 by_atoms_of_key key box none full h closed =
-    let some = unit-from_one key box full (λ fixed. both_ways (fixed_closes key box.bounds fixed.number) (h.no_fixed fixed.number fixed.below) fixed.holds) closed in
+    let some = unit-from_one key box full
+    (λ fixed. both_ways (fixed_closes key box.bounds fixed.number) (h.no_fixed fixed.number fixed.below) fixed.holds)
+    closed in
     let i = some.number in
     let lt : i < length key = omega (arith, some.below, ap length none) in
-    let at : on_place key i ≡ OnAtom i = ap (λ (b : Bool). cond b (OnAtom i) (OnSide (i - length key))) (lt-ltb i (length key) lt) in
-    ⊎_elim (λ plus. both_ways (closes_alone key box i (pos 1)) (ap (λ (o : On). combo_closes key box (record { on = o; factor = pos 1 } ∷ [])) at ∙ h.positive i lt) plus) (λ minus. both_ways (closes_alone key box i (negsuc 0)) (ap (λ (o : On). combo_closes key box (record { on = o; factor = negsuc 0 } ∷ [])) at ∙ h.negative i lt) minus) (or_cases (closes_alone key box i (pos 1)) (closes_alone key box i (negsuc 0)) some.holds)
+    let at : on_place key i ≡ OnAtom i = ap (λ (b : Bool). cond b (OnAtom i) (OnSide (i - length key)))
+    (lt-ltb i (length key) lt) in
+    ⊎_elim (λ plus. both_ways (closes_alone key box i (pos 1))
+    (ap (λ (o : On). combo_closes key box (record { on = o; factor = pos 1 } ∷ [])) at ∙ h.positive i lt) plus)
+    (λ minus. both_ways (closes_alone key box i (negsuc 0))
+    (ap (λ (o : On). combo_closes key box (record { on = o; factor = negsuc 0 } ∷ [])) at ∙ h.negative i lt) minus)
+    (or_cases (closes_alone key box i (pos 1)) (closes_alone key box i (negsuc 0)) some.holds)
 
 -- ---- the sum of two
 
 abbrev pub no_two_close : List PlainKeyAtom → PlainBox → Bool
-no_two_close key box = each_below (λ place. each_below (λ other. not (pair_closes key box place other)) (place_count key box.sides)) (place_count key box.sides)
+no_two_close key box =
+    each_below (λ place. each_below (λ other. not (pair_closes key box place other)) (place_count key box.sides))
+    (place_count key box.sides)
 
 pub not_by_two : (key : List PlainKeyAtom) (box : PlainBox) → no_two_close key box ≡ true → ¬ ClosedBySumOfTwo key box
 not_by_two key box pairs closed =
     let n = place_count key box.sides in
     let some = pair-from_two key box closed in
-    none_passes (pair_closes key box some.number) n (each_below-at (λ place. each_below (λ other. not (pair_closes key box place other)) n) n some.number pairs some.below) some.holds
+    none_passes (pair_closes key box some.number) n
+    (each_below-at (λ place. each_below (λ other. not (pair_closes key box place other)) n) n some.number pairs
+    some.below) some.holds

@@ -1,5 +1,6 @@
 -- Bounds, leaves and the reading of trees on small worked values, as the checker computes them.
-use Rattle.std.proofs.Common.{◌≡◌, ◌≢◌, ℕ, zero, suc, ℤ, pos, negsuc, true, false, List, [], ◌∷◌, ◌++◌, Some, None, inl, inr, refl, arith}
+use Rattle.std.proofs.Common.{◌≡◌, ◌≢◌, ℕ, zero, suc, ℤ, pos, negsuc, true, false, List, [], ◌∷◌, ◌++◌, Some, None, inl}
+use Rattle.std.proofs.Common.{inr, refl, arith}
 use Rattle.lin_model.specs.declared.form.FormTerm.{FormTerm}
 use Rattle.lin_model.specs.declared.op.Op.{Op}
 use Rattle.lin_model.specs.declared.op.Op.TheVariants.{Le, Ge, Eq, Ne}
@@ -13,7 +14,8 @@ use Rattle.refutation.specs.Bounds.{variables, lower_of, upper_of, key_bounds, i
 use Rattle.refutation.specs.Box.{root_box, left_half, right_half}
 use Rattle.refutation.specs.Boxed.{IsBoxed}
 use Rattle.refutation.specs.Leaf.{combo_closes, fixed_closes, summed_form, is_positive_sum}
-use Rattle.refutation.specs.Reading.{Refutes, FailsAt, EndsEarly, GoesOn, TreeReading, treated, read_over, strict_reading, tree_reading}
+use Rattle.refutation.specs.Reading.{Refutes, FailsAt, EndsEarly, GoesOn, TreeReading, treated, read_over}
+use Rattle.refutation.specs.Reading.{strict_reading, tree_reading}
 
 -- `a*v0 + b*v1`
 abbrev pub sum_of : ℤ → ℤ → List FormTerm
@@ -35,7 +37,8 @@ on_side i factor = record { on = OnSide i; factor = factor }
 -- the atoms over v0 from 0 to m and v1 from 0 to n
 abbrev pub over : ℕ → ℕ → List PlainKeyAtom → List PlainKeyAtom
 over m n atoms =
-    atom (variable 0) Le (pos m) ∷ atom (variable 0) Ge (pos 0) ∷ (atoms ++ atom (variable 1) Le (pos n) ∷ atom (variable 1) Ge (pos 0) ∷ [])
+    atom (variable 0) Le (pos m) ∷ atom (variable 0) Ge (pos 0) ∷
+    (atoms ++ atom (variable 1) Le (pos n) ∷ atom (variable 1) Ge (pos 0) ∷ [])
 
 -- `v0 - v1 <= -1` with `v0 - v1 >= 1`
 abbrev pub crossed : List PlainKeyAtom
@@ -56,15 +59,18 @@ unfolding read_over treated combo_closes summed_form is_positive_sum least varia
 check_factor_changed = record { before = refl; some_rest = some _ _; some_boxes = some _ _ }
 
 -- a negative factor on `<=`, on `>=` and on a side, where it would close a box that has points
-check_negative_factor : FailsAt (atom (variable 0) Le (pos 3) ∷ atom (variable 0) Le (pos 5) ∷ []) (Combo 1 ∷ []) (on_atom 1 (negsuc 0) ∷ []) 0
+check_negative_factor : FailsAt (atom (variable 0) Le (pos 3) ∷ atom (variable 0) Le (pos 5) ∷ []) (Combo 1 ∷ [])
+    (on_atom 1 (negsuc 0) ∷ []) 0
 unfolding read_over treated combo_closes summed_form is_positive_sum least variables key_bounds
 check_negative_factor = record { before = refl; some_rest = some _ _; some_boxes = some _ _ }
 
-check_negative_at_least : FailsAt (atom (variable 0) Ge (pos 3) ∷ atom (variable 0) Ge (pos 5) ∷ []) (Combo 1 ∷ []) (on_atom 0 (negsuc 0) ∷ []) 0
+check_negative_at_least : FailsAt (atom (variable 0) Ge (pos 3) ∷ atom (variable 0) Ge (pos 5) ∷ []) (Combo 1 ∷ [])
+    (on_atom 0 (negsuc 0) ∷ []) 0
 unfolding read_over treated combo_closes summed_form is_positive_sum least variables key_bounds
 check_negative_at_least = record { before = refl; some_rest = some _ _; some_boxes = some _ _ }
 
-check_negative_side : FailsAt (atom (variable 0) Le (pos 3) ∷ atom (variable 0) Ge (pos 0) ∷ atom (variable 0) Ne (pos 5) ∷ []) (NeSplit 2 ∷ Combo 1 ∷ []) (on_side 0 (negsuc 0) ∷ []) 1
+check_negative_side : FailsAt (atom (variable 0) Le (pos 3) ∷ atom (variable 0) Ge (pos 0) ∷ atom (variable 0) Ne
+    (pos 5) ∷ []) (NeSplit 2 ∷ Combo 1 ∷ []) (on_side 0 (negsuc 0) ∷ []) 1
 unfolding read_over treated combo_closes summed_form is_positive_sum least variables key_bounds
 check_negative_side = record { before = refl; some_rest = some _ _; some_boxes = some _ _ }
 
@@ -81,29 +87,36 @@ check_ends_early : EndsEarly crossed (Split 0 (pos 0) ∷ Combo 2 ∷ []) (on_at
 unfolding read_over treated combo_closes summed_form is_positive_sum least variables key_bounds
 check_ends_early = record { no_rest = refl; some_boxes = some _ _ }
 
-check_left_fails : FailsAt crossed (Split 0 (pos 0) ∷ Combo 2 ∷ Left ∷ []) (on_atom 0 (pos 1) ∷ on_atom 1 (pos 1) ∷ []) 2
+check_left_fails : FailsAt crossed (Split 0 (pos 0) ∷ Combo 2 ∷ Left ∷ []) (on_atom 0 (pos 1) ∷ on_atom 1 (pos 1) ∷ [])
+    2
 unfolding read_over treated combo_closes summed_form is_positive_sum least variables key_bounds
 check_left_fails = record { before = refl; some_rest = some _ _; some_boxes = some _ _ }
 
 -- the split meets the root box, and the combination its lower half; the upper half is left
 abbrev after_two : List Node → TreeReading
 after_two rest = record {
-  met = record { node = Split 0 (pos 0); box = root_box crossed } ∷ record { node = Combo 2; box = left_half (root_box crossed) 0 (pos 0) } ∷ [];
+  met = record { node = Split 0 (pos 0); box = root_box crossed } ∷ record {
+    node = Combo 2;
+    box = left_half (root_box crossed) 0 (pos 0);
+  } ∷ [];
   rest = rest;
   terms = [];
   boxes = right_half (root_box crossed) 0 (pos 0) ∷ [];
 }
 
-check_two_read : strict_reading crossed (Split 0 (pos 0) ∷ Combo 2 ∷ []) (on_atom 0 (pos 1) ∷ on_atom 1 (pos 1) ∷ []) ≡ after_two []
+check_two_read : strict_reading crossed (Split 0 (pos 0) ∷ Combo 2 ∷ []) (on_atom 0 (pos 1) ∷ on_atom 1 (pos 1) ∷ [])
+    ≡ after_two []
 unfolding read_over treated combo_closes summed_form is_positive_sum least variables key_bounds
 check_two_read = refl
 
 -- a Left behind them isn't read where none may stand; where it may, it leaves no box
-check_left_not_read : strict_reading crossed (Split 0 (pos 0) ∷ Combo 2 ∷ Left ∷ []) (on_atom 0 (pos 1) ∷ on_atom 1 (pos 1) ∷ []) ≡ after_two (Left ∷ [])
+check_left_not_read : strict_reading crossed (Split 0 (pos 0) ∷ Combo 2 ∷ Left ∷ [])
+    (on_atom 0 (pos 1) ∷ on_atom 1 (pos 1) ∷ []) ≡ after_two (Left ∷ [])
 unfolding read_over treated combo_closes summed_form is_positive_sum least variables key_bounds
 check_left_not_read = refl
 
-check_left_read : (tree_reading true crossed (Split 0 (pos 0) ∷ Combo 2 ∷ Left ∷ []) (on_atom 0 (pos 1) ∷ on_atom 1 (pos 1) ∷ [])).boxes ≡ []
+check_left_read : (tree_reading true crossed (Split 0 (pos 0) ∷ Combo 2 ∷ Left ∷ [])
+    (on_atom 0 (pos 1) ∷ on_atom 1 (pos 1) ∷ [])).boxes ≡ []
 unfolding read_over treated combo_closes summed_form is_positive_sum least variables key_bounds
 check_left_read = refl
 
@@ -111,12 +124,14 @@ check_left_read = refl
 abbrev pub pinned : List PlainKeyAtom
 pinned = atom difference Le (pos 0) ∷ atom difference Ge (pos 0) ∷ atom difference Ne (pos 0) ∷ []
 
-check_ne_split : Refutes pinned (NeSplit 2 ∷ Combo 2 ∷ Combo 2 ∷ []) (on_atom 1 (pos 1) ∷ on_side 0 (pos 1) ∷ on_atom 0 (pos 1) ∷ on_side 0 (pos 1) ∷ [])
+check_ne_split : Refutes pinned (NeSplit 2 ∷ Combo 2 ∷ Combo 2 ∷ [])
+    (on_atom 1 (pos 1) ∷ on_side 0 (pos 1) ∷ on_atom 0 (pos 1) ∷ on_side 0 (pos 1) ∷ [])
 unfolding read_over treated combo_closes summed_form is_positive_sum least variables key_bounds
 check_ne_split = record { no_rest = refl; no_terms = refl; no_boxes = refl }
 
 -- the sides the wrong way round
-check_wrong_side : FailsAt pinned (NeSplit 2 ∷ Combo 2 ∷ Combo 2 ∷ []) (on_atom 0 (pos 1) ∷ on_side 0 (pos 1) ∷ on_atom 0 (pos 1) ∷ on_side 0 (pos 1) ∷ []) 1
+check_wrong_side : FailsAt pinned (NeSplit 2 ∷ Combo 2 ∷ Combo 2 ∷ [])
+    (on_atom 0 (pos 1) ∷ on_side 0 (pos 1) ∷ on_atom 0 (pos 1) ∷ on_side 0 (pos 1) ∷ []) 1
 unfolding read_over treated combo_closes summed_form is_positive_sum least variables key_bounds
 check_wrong_side = record { before = refl; some_rest = some _ _; some_boxes = some _ _ }
 
@@ -145,7 +160,8 @@ check_missing_lower : lower_of (key_bounds (atom (variable 0) Ge (negsuc 4294967
 unfolding key_bounds variables
 check_missing_lower = refl
 
-check_tightest : upper_of (key_bounds (atom (variable 1) Le (pos 9) ∷ atom (variable 1) Eq (pos 7) ∷ [])) 1 ≡ Some (pos 7)
+check_tightest : upper_of (key_bounds (atom (variable 1) Le (pos 9) ∷ atom (variable 1) Eq (pos 7) ∷ [])) 1
+    ≡ Some (pos 7)
 unfolding key_bounds variables
 check_tightest = refl
 

@@ -1,6 +1,8 @@
--- What follows from the list of all variables, the definition of an empty box and a walk with a first box: for the proofs
+-- What follows from the list of all variables, the definition of an empty box and a walk with a first box: for the
+-- proofs
 -- of the crates above.
-use Rattle.std.proofs.Common.{◌≡◌, ℕ, ℤ, pos, Option, Some, None, is_some, ◌<◌, ◌∙◌, List, [], ◌∷◌, true, false, length, get_or, refl, subst, arith}
+use Rattle.std.proofs.Common.{◌≡◌, ℕ, ℤ, pos, Option, Some, None, is_some, ◌<◌, ◌∙◌, List, [], ◌∷◌, true, false, length}
+use Rattle.std.proofs.Common.{get_or, refl, subst, arith}
 use Rattle.std.specs.Option.{unwrap_or}
 use Rattle.std.proofs.lemmas.Bool.{both_ways, false_from_ne_true}
 use Rattle.std.proofs.lemmas.List.Folds.{list_any-from_Any}
@@ -22,14 +24,19 @@ unfolding variables
 variables-length = length-range_with_len 0 64
 
 -- where the sides of a variable cross, the box is empty
-pub is_empty-true : (b : PlainBounds) (v : ℕ) → v < 64 → crosses (lower_of b v) (upper_of b v) ≡ true → is_empty b ≡ true
+pub is_empty-true : (b : PlainBounds) (v : ℕ) → v < 64 → crosses (lower_of b v) (upper_of b v) ≡ true
+    → is_empty b ≡ true
 unfolding is_empty
 is_empty-true b v lt h =
-    list_any-from_Any (λ w. crosses (lower_of b w) (upper_of b w)) variables (v, v, omega (arith, variables-length), variable-at v v lt, h)
+    list_any-from_Any (λ w. crosses (lower_of b w) (upper_of b w)) variables
+    (v, v, omega (arith, variables-length), variable-at v v lt, h)
 
 -- the sides of a box that isn't empty don't cross
-pub not_crossed : (b : PlainBounds) (v : ℕ) → v < 64 → is_empty b ≡ false → crosses (lower_of b v) (upper_of b v) ≡ false
-not_crossed b v lt full = false_from_ne_true (crosses (lower_of b v) (upper_of b v)) (λ is. both_ways (is_empty b) full (is_empty-true b v lt is))
+pub not_crossed : (b : PlainBounds) (v : ℕ) → v < 64 → is_empty b ≡ false
+    → crosses (lower_of b v) (upper_of b v) ≡ false
+not_crossed b v lt full =
+    false_from_ne_true (crosses (lower_of b v) (upper_of b v))
+    (λ is. both_ways (is_empty b) full (is_empty-true b v lt is))
 
 -- both sides of a variable, by their values
 pub sides-of : (b : PlainBounds) (v : ℕ) → HasBothSides b v

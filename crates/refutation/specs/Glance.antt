@@ -1,5 +1,7 @@
--- What closes a box at a glance, as it is tried: the atoms of the key, and behind them the sides of the box, counted in one row.
-use Rattle.std.specs.Prelude.{ℕ, ◌+◌, ◌-◌, ◌<◌, ℤ, pos, negsuc, Bool, ◌||◌, if◌then◌else◌, nat_lt, IsTrue, List, [], ◌∷◌, length}
+-- What closes a box at a glance, as it is tried: the atoms of the key, and behind them the sides of the box, counted in
+-- one row.
+use Rattle.std.specs.Prelude.{ℕ, ◌+◌, ◌-◌, ◌<◌, ℤ, pos, negsuc, Bool, ◌||◌, if◌then◌else◌, nat_lt, IsTrue, List, []}
+use Rattle.std.specs.Prelude.{◌∷◌, length}
 use Rattle.lin_model.specs.KeyAtom.{PlainKeyAtom}
 use Rattle.refutation.specs.declared.leaf.LeafTerm.{LeafTerm}
 use Rattle.refutation.specs.declared.leaf.On.{On}
@@ -32,7 +34,8 @@ closes_alone key box place factor = combo_closes key box (term_at key place fact
 
 -- the sum of the two closes it
 abbrev pub close_together : List PlainKeyAtom → PlainBox → ℕ → ℤ → ℕ → ℤ → Bool
-close_together key box place factor other by = combo_closes key box (term_at key place factor ∷ term_at key other by ∷ [])
+close_together key box place factor other by =
+    combo_closes key box (term_at key place factor ∷ term_at key other by ∷ [])
 
 -- the factor 1 or -1 of this atom or side closes the box
 abbrev pub unit_closes : List PlainKeyAtom → PlainBox → ℕ → Bool
@@ -53,7 +56,8 @@ SomeUnitCloses key box = SomeBelow (λ place. IsTrue (unit_closes key box place)
 
 -- some atom or side with this one does
 abbrev pub SomeOtherCloses : List PlainKeyAtom → PlainBox → ℕ → Type 0
-SomeOtherCloses key box place = SomeBelow (λ other. IsTrue (pair_closes key box place other)) (place_count key box.sides)
+SomeOtherCloses key box place =
+    SomeBelow (λ other. IsTrue (pair_closes key box place other)) (place_count key box.sides)
 
 -- some two do
 abbrev pub SomePairCloses : List PlainKeyAtom → PlainBox → Type 0

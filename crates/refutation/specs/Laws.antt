@@ -1,5 +1,6 @@
 -- What refutations and bounds keep.
-use Rattle.std.specs.Prelude.{◌≡◌, ℕ, ◌^◌, ◌<◌, ◌≤◌, ℤ, Result, Ok, Err, pos, negsuc, ◌+ℤ◌, false, List, [], ◌∷◌, length, unsigned_abs}
+use Rattle.std.specs.Prelude.{◌≡◌, ℕ, ◌^◌, ◌<◌, ◌≤◌, ℤ, Result, Ok, Err, pos, negsuc, ◌+ℤ◌, false, List, [], ◌∷◌}
+use Rattle.std.specs.Prelude.{length, unsigned_abs}
 use Rattle.lin_model.specs.KeyAtom.{PlainKeyAtom}
 use Rattle.lin_model.specs.Key.{IsKey, KeyHolds}
 use Rattle.lin_model.specs.Bounded.{IsBounded}
@@ -31,11 +32,14 @@ pub record HasOneTreeAnswer (key : List PlainKeyAtom) (nodes : List Node) (terms
 
 -- each tree has one answer
 abbrev pub EachTreeHasOneAnswer : Type 0
-EachTreeHasOneAnswer = (key : List PlainKeyAtom) (nodes : List Node) (terms : List LeafTerm) → HasOneTreeAnswer key nodes terms
+EachTreeHasOneAnswer =
+    (key : List PlainKeyAtom) (nodes : List Node) (terms : List LeafTerm) → HasOneTreeAnswer key nodes terms
 
 -- no point satisfies a key that some tree refutes
 abbrev pub RefutedHasNoPoint : Type 0
-RefutedHasNoPoint = (key : List PlainKeyAtom) (nodes : List Node) (terms : List LeafTerm) → IsKey key → Refutes key nodes terms → HasNoPoint key
+RefutedHasNoPoint =
+    (key : List PlainKeyAtom) (nodes : List Node) (terms : List LeafTerm) → IsKey key → Refutes key nodes terms
+    → HasNoPoint key
 
 -- a key that bounds each of its variables on both sides has both sides of each
 abbrev pub BoundedIsBoxed : Type 0
@@ -43,7 +47,8 @@ BoundedIsBoxed = (key : List PlainKeyAtom) → IsKey key → IsBounded key → I
 
 -- an open tree of a boxed key has fewer splits than the key has room, whichever rule it splits by
 pub record OpenTreesAreBelowRoom : Type 0 where
-  pub below : {rule : Rule} (key : List PlainKeyAtom) (splits : ℕ) (nodes : List Node) (terms : List LeafTerm) → IsKey key → IsBoxed key → IsOpenTreeBy rule key splits nodes terms → splits < room key
+  pub below : {rule : Rule} (key : List PlainKeyAtom) (splits : ℕ) (nodes : List Node) (terms : List LeafTerm)
+      → IsKey key → IsBoxed key → IsOpenTreeBy rule key splits nodes terms → splits < room key
 
 -- the halves of a cut are as the whole: not empty, boxed and short; and so is the cut short
 pub record AreProperHalves (b : PlainBounds) (v : ℕ) (cut : ℤ) : Type 0 where
@@ -65,14 +70,19 @@ KeyBoundsAreShort = (key : List PlainKeyAtom) → HasShortSides (key_bounds key)
 
 -- no leaf closes the root box of a key that a point satisfies
 abbrev pub RootsOfModelsStayOpen : Type 0
-RootsOfModelsStayOpen = (key : List PlainKeyAtom) (leaf : PlainLeaf) (point : List ℤ) → IsKey key → KeyHolds key point → ¬ Closes key (root_box key) leaf
+RootsOfModelsStayOpen =
+    (key : List PlainKeyAtom) (leaf : PlainLeaf) (point : List ℤ) → IsKey key → KeyHolds key point
+    → ¬ Closes key (root_box key) leaf
 
 -- no atom of the key closes the box, by the factor 1, by -1, or because its form has one value
 pub record NoAtomOfTheKeyCloses (key : List PlainKeyAtom) (box : PlainBox) : Type 0 where
   pub positive : (i : ℕ) → i < length key → combo_closes key box (record { on = OnAtom i; factor = pos 1 } ∷ []) ≡ false
-  pub negative : (i : ℕ) → i < length key → combo_closes key box (record { on = OnAtom i; factor = negsuc 0 } ∷ []) ≡ false
+  pub negative : (i : ℕ) → i < length key → combo_closes key box (record { on = OnAtom i; factor = negsuc 0 } ∷ [])
+      ≡ false
   pub no_fixed : (i : ℕ) → i < length key → fixed_closes key box.bounds i ≡ false
 
 -- so one atom doesn't close it at all, if it isn't empty and has no sides
 abbrev pub ClosedByAtomsOfTheKey : Type 0
-ClosedByAtomsOfTheKey = (key : List PlainKeyAtom) (box : PlainBox) → box.sides ≡ [] → is_empty box.bounds ≡ false → NoAtomOfTheKeyCloses key box → ¬ ClosedByOneAtom key box
+ClosedByAtomsOfTheKey =
+    (key : List PlainKeyAtom) (box : PlainBox) → box.sides ≡ [] → is_empty box.bounds ≡ false
+    → NoAtomOfTheKeyCloses key box → ¬ ClosedByOneAtom key box

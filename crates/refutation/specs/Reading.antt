@@ -1,5 +1,6 @@
 -- How the nodes of a tree are read over the undecided boxes, once, and what the reading says of the tree.
-use Rattle.std.specs.Prelude.{◌≡◌, ◌≢◌, ◌⊎◌, ℕ, ◌^◌, ℤ, Bool, true, false, ◌&&◌, if◌then◌else◌, nat_lt, nat_le, Option, Some, None, List, [], ◌∷◌, ◌++◌, length, take, drop, unsigned_abs, slice_get}
+use Rattle.std.specs.Prelude.{◌≡◌, ◌≢◌, ◌⊎◌, ℕ, ◌^◌, ℤ, Bool, true, false, ◌&&◌, if◌then◌else◌, nat_lt, nat_le, Option}
+use Rattle.std.specs.Prelude.{Some, None, List, [], ◌∷◌, ◌++◌, length, take, drop, unsigned_abs, slice_get}
 use Rattle.std.specs.Option.{option_map_or}
 use Rattle.lin_model.specs.KeyAtom.{PlainKeyAtom}
 use Rattle.lin_model.specs.Key.{KeyHolds}
@@ -32,9 +33,11 @@ closed_by closed terms = if closed then Some (record { boxes = []; terms = terms
 -- by. The flag says whether Left may stand, which decides its box without closing it
 unfoldable pub treated : Bool → List PlainKeyAtom → PlainBox → Node → List LeafTerm → Option Treated
 treated may_leave key box (Split v cut) terms =
-    if is_split v cut then Some (record { boxes = left_half box v cut ∷ right_half box v cut ∷ []; terms = terms }) else None
+    if is_split v cut then Some (record { boxes = left_half box v cut ∷ right_half box v cut ∷ []; terms = terms }) else
+    None
 treated may_leave key box (NeSplit i) terms =
-    if names_ne key i then Some (record { boxes = on_side box i false ∷ on_side box i true ∷ []; terms = terms }) else None
+    if names_ne key i then Some (record { boxes = on_side box i false ∷ on_side box i true ∷ []; terms = terms }) else
+    None
 treated may_leave key box (Combo count) terms =
     closed_by (nat_le count (length terms) && closes key box (combo (take count terms))) (drop count terms)
 treated may_leave key box (Fixed i) terms = closed_by (closes key box (fixed i)) terms
@@ -66,7 +69,8 @@ behind node box r =
     record { met = record { node = node; box = box } ∷ r.met; rest = r.rest; terms = r.terms; boxes = r.boxes }
 
 -- the nodes are read in order, each treating the first undecided box, up to the first that finds no box or may not
--- stand there. Say that `Split, Empty` is read over one box, and that its lower half is empty: the split is met with the
+-- stand there. Say that `Split, Empty` is read over one box, and that its lower half is empty: the split is met with
+-- the
 -- box, Empty with the lower half, no node is the rest, and the upper half is left
 unfoldable pub read_over : Bool → List PlainKeyAtom → List Node → List LeafTerm → List PlainBox → TreeReading
 read_over may_leave key [] terms boxes = nothing_read [] terms boxes

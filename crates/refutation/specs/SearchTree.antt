@@ -1,5 +1,6 @@
 -- Trees of a search: finished ones, and open ones, whose undecided boxes are marked.
-use Rattle.std.specs.Prelude.{◌≡◌, ◌≢◌, ℕ, suc, ◌*◌, ◌<◌, ℤ, ◌-ℤ◌, Bool, true, false, if◌then◌else◌, int_lt, Option, Some, None, IsSomeAnd, List, [], ◌∷◌, unsigned_abs}
+use Rattle.std.specs.Prelude.{◌≡◌, ◌≢◌, ℕ, suc, ◌*◌, ◌<◌, ℤ, ◌-ℤ◌, Bool, true, false, if◌then◌else◌, int_lt, Option}
+use Rattle.std.specs.Prelude.{Some, None, IsSomeAnd, List, [], ◌∷◌, unsigned_abs}
 use Rattle.std.specs.List.{All, AllPairs, count_by, range_with_len, find}
 use Rattle.lin_model.specs.KeyAtom.{PlainKeyAtom}
 use Rattle.lin_model.specs.Key.{KeyHolds, key_width}
@@ -105,14 +106,17 @@ abbrev pub KeepsOrderBy : Rule → List PlainKeyAtom → Met → Type 0
 KeepsOrderBy rule key m = is_inner m.node ≡ true → IsSearchSplitBy rule key m.box m.node
 
 -- each node and each term is read, and the inner nodes are those of a search; boxes may be left
-pub record IsSearchTreeBy (rule : Rule) (key : List PlainKeyAtom) (nodes : List Node) (terms : List LeafTerm) : Type 0 where
-  pub no_rest : (search_reading key nodes terms).rest ≡ []
-  pub no_terms : (search_reading key nodes terms).terms ≡ []
-  pub in_order : All (KeepsOrderBy rule key) (search_reading key nodes terms).met
+pub record IsSearchTreeBy (rule : Rule) (key : List PlainKeyAtom) (nodes : List Node) (terms : List LeafTerm) : Type 0
+  where
+    pub no_rest : (search_reading key nodes terms).rest ≡ []
+    pub no_terms : (search_reading key nodes terms).terms ≡ []
+    pub in_order : All (KeepsOrderBy rule key) (search_reading key nodes terms).met
 
--- a search tree with just this many inner nodes, all before its first Left, that decides every box; the box at its first
+-- a search tree with just this many inner nodes, all before its first Left, that decides every box; the box at its
+-- first
 -- Left is one that has to be split
-pub record IsOpenTreeBy (rule : Rule) (key : List PlainKeyAtom) (splits : ℕ) (nodes : List Node) (terms : List LeafTerm) : Type 0 where
+pub record IsOpenTreeBy (rule : Rule) (key : List PlainKeyAtom) (splits : ℕ) (nodes : List Node)
+    (terms : List LeafTerm) : Type 0 where
   pub search : IsSearchTreeBy rule key nodes terms
   pub inner : inner_count nodes ≡ splits
   pub no_boxes : undecided_boxes key nodes terms ≡ []

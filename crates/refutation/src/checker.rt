@@ -3,7 +3,8 @@
 ghost use Rattle.std.specs.Prelude.{◌≡◌, ◌<◌, ◌∷◌, ◌&&◌, [], ℕ, Err, OnOk, length, take, nat_le, true, false, IfOk};
 ghost use Rattle.refutation.specs.Box.{left_half, right_half, on_side};
 ghost use Rattle.refutation.specs.Leaf.{combo_closes};
-ghost use Rattle.refutation.specs.Reading.{is_split, names_ne, treated, Refutes, FailsAt, EndsEarly, GoesOn, HasNoPoint};
+ghost use Rattle.refutation.specs.Reading.{is_split, names_ne, treated, Refutes, FailsAt, EndsEarly, GoesOn};
+ghost use Rattle.refutation.specs.Reading.{HasNoPoint};
 ghost use Rattle.refutation.specs.Walk.{OnFirst, Puts, Treats};
 
 use crate::closing::atom_at;
@@ -15,9 +16,13 @@ use lin_model::{Key, Op};
 use outside::NoMemory;
 use std::alloc::Global;
 
-/// Checks that a tree refutes a key. The nodes come in preorder and are read over the list of undecided boxes, which begins as the key's bounds alone; each combination takes the terms that come next. Whoever made the tree is not trusted.
+/// Checks that a tree refutes a key. The nodes come in preorder and are read over the list of undecided boxes, which
+/// begins as the key's bounds alone; each combination takes the terms that come next. Whoever made the tree is not
+/// trusted.
 ///
-/// Ok comes only where each node may stand where it does, and the last of them closes the last box with no term to spare; then no integer point satisfies the key. `NodeFails`, `TreeEnds` and `TreeGoesOn` come exactly as their texts say, unless memory runs out first.
+/// Ok comes only where each node may stand where it does, and the last of them closes the last box with no term to
+/// spare; then no integer point satisfies the key. `NodeFails`, `TreeEnds` and `TreeGoesOn` come exactly as their texts
+/// say, unless memory runs out first.
 pub fn refutes(
     alloc: Global,
     key: &Key,
@@ -51,7 +56,8 @@ pub fn refutes(
     Ok(())
 }
 
-/// Lets a node treat the first undecided box, and answers how many terms it took. None says that the node may not stand there: it is unlawful, or a leaf that this box is not closed by.
+/// Lets a node treat the first undecided box, and answers how many terms it took. None says that the node may not stand
+/// there: it is unlawful, or a leaf that this box is not closed by.
 fn treat(
     walk: &mut Walk,
     key: &Key,

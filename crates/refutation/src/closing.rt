@@ -5,7 +5,8 @@ ghost use Rattle.std.specs.Option.{option_copied, option_and_then};
 ghost use Rattle.lin_model.specs.KeyAtom.{IsCanonical, IsCanonicalForm};
 ghost use Rattle.lin_model.specs.Test.{passes};
 ghost use Rattle.refutation.specs.Box.{beside, side_atom};
-ghost use Rattle.refutation.specs.Leaf.{closes, leaf_of, combo_closes, fixed_closes, fails_fixed, multiple_of, weighted, weight};
+ghost use Rattle.refutation.specs.Leaf.{closes, leaf_of, combo_closes, fixed_closes, fails_fixed, multiple_of};
+ghost use Rattle.refutation.specs.Leaf.{weighted, weight};
 ghost use Rattle.refutation.specs.Sum.{AddsIfSome};
 
 use crate::bounds::Bounds;
@@ -97,7 +98,8 @@ pub fn add_numbered_atom(sum: &mut Sum, key: &Key, number: usize, factor: i64) -
     }
 }
 
-/// Adds the multiple of the side of this number; false where there is none, it names no atom or its factor isn't lawful.
+/// Adds the multiple of the side of this number; false where there is none, it names no atom or its factor isn't
+/// lawful.
 pub fn add_numbered_side(
     sum: &mut Sum,
     key: &Key,
@@ -145,7 +147,8 @@ fn add_weighted(sum: &mut Sum, form: &[FormTerm], op: Op, constant: i64, factor:
     requires form { IsCanonicalForm form.now }
     requires constant { unsigned_abs constant ≤ 2 ^ 50 }
     requires few { sum.old.count < 8 }
-    ensures { AddsIfSome (weighted (record { form = form.now; op = op; constant = constant }) factor) sum.old sum.new result }
+    ensures { AddsIfSome (weighted (record { form = form.now; op = op; constant = constant }) factor)
+        sum.old sum.new result }
 {
     match weight(op, factor) {
         None => false,
@@ -156,7 +159,8 @@ fn add_weighted(sum: &mut Sum, form: &[FormTerm], op: Op, constant: i64, factor:
     }
 }
 
-/// The multiple of `form - constant` that a factor stands for: its negative on `>=`, where `constant - form` is meant. None where the factor isn't lawful.
+/// The multiple of `form - constant` that a factor stands for: its negative on `>=`, where `constant - form` is meant.
+/// None where the factor isn't lawful.
 fn weight(op: Op, factor: i64) -> Option<i64>
     ensures value { result ≡ weight op factor }
     ensures size { IfSome result (λ w. unsigned_abs w ≤ 2 ^ 31) }

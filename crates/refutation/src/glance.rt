@@ -1,8 +1,10 @@
-//! What closes a box at a glance: one atom, or the sum of two. A side counts like an atom. In a row of both the atoms of
+//! What closes a box at a glance: one atom, or the sum of two. A side counts like an atom. In a row of both the atoms
+//! of
 //! the key come first.
 
 ghost use Rattle.std.specs.Prelude.{◌≡◌, ◌↔◌, ◌<◌, IsTrue, length};
-ghost use Rattle.refutation.specs.Glance.{SomeBelow, place_count, term_at, closes_alone, close_together, closes_with, unit_closes, pair_closes, SomeUnitCloses, SomeOtherCloses, SomePairCloses};
+ghost use Rattle.refutation.specs.Glance.{SomeBelow, place_count, term_at, closes_alone, close_together, closes_with};
+ghost use Rattle.refutation.specs.Glance.{unit_closes, pair_closes, SomeUnitCloses, SomeOtherCloses, SomePairCloses};
 ghost use Rattle.refutation.specs.Leaf.{fixed_closes, multiple_of, ClosedByOneAtom, ClosedBySumOfTwo};
 ghost use Rattle.refutation.specs.Sum.{AddsIfSome};
 
@@ -26,7 +28,8 @@ pub fn closed_by_one_atom(key: &Key, bounds: &Bounds, sides: &[Side]) -> bool
     some_unit_closes(key, bounds, sides)
 }
 
-/// Whether the sum of two atoms or sides closes the box of these bounds and sides, each by the factor 1, or by -1 on `=`.
+/// Whether the sum of two atoms or sides closes the box of these bounds and sides, each by the factor 1, or by -1 on
+/// `=`.
 pub fn closed_by_sum_of_two(key: &Key, bounds: &Bounds, sides: &[Side]) -> bool
     ensures { IsTrue result ↔ ClosedBySumOfTwo key.now (record { bounds = bounds.now; sides = sides.now }) }
 {
@@ -139,7 +142,8 @@ fn close_together(
     other: usize,
     by: i64,
 ) -> bool
-    ensures { result ≡ close_together key.now (record { bounds = bounds.now; sides = sides.now }) place factor other by }
+    ensures { result
+        ≡ close_together key.now (record { bounds = bounds.now; sides = sides.now }) place factor other by }
 {
     let mut sum = Sum::zero();
     if !add_place(&mut sum, key, sides, place, factor) {

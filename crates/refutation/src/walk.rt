@@ -1,6 +1,7 @@
 //! The walk over a tree: the undecided boxes, of which one is kept whole and the others as turns on the way to it.
 
-ghost use Rattle.std.specs.Prelude.{◌≡◌, ◌^◌, ◌<◌, ◌≤◌, ◌↔◌, [], ◌∷◌, true, false, unsigned_abs, length, reverse, drop, IsTrue, IfOk, OnOk};
+ghost use Rattle.std.specs.Prelude.{◌≡◌, ◌^◌, ◌<◌, ◌≤◌, ◌↔◌, [], ◌∷◌, true, false, unsigned_abs, length, reverse, drop};
+ghost use Rattle.std.specs.Prelude.{IsTrue, IfOk, OnOk};
 ghost use Rattle.std.specs.List.{All};
 ghost use Rattle.lin_model.specs.Key.{IsKey};
 ghost use Rattle.refutation.specs.Box.{root_box, left_half, right_half, on_side};
@@ -135,7 +136,8 @@ fn next_box(
 ) -> Result<bool, NoMemory>
     requires { All IsTurn path.old.items }
     ensures turns { All IsTurn path.new.items }
-    ensures next { IfOk result (λ found. undecided found path.new.items (record { bounds = bounds.new; sides = sides.new.items })
+    ensures next { IfOk result (λ found.
+        undecided found path.new.items (record { bounds = bounds.new; sides = sides.new.items })
         ≡ waiting (reverse path.old.items) (record { bounds = bounds.old; sides = sides.old.items })) }
 {
     while let Some(turn) = path.pop() {

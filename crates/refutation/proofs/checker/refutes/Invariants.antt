@@ -6,6 +6,7 @@ use Rattle.refutation.proofs.checker.refutes.Given as goal
 -- what is left is read as by the reading of the whole tree behind the nodes so far
 abbrev pub invariant-loop-i : goal.invariant-loop-i
 invariant-loop-i l = record {
-  reading : IsBehind l.i (read_over false l.key (drop l.i l.nodes) (drop l.taken l.terms) l.walk) (strict_reading l.key l.nodes l.terms);
+  reading : IsBehind l.i (read_over false l.key (drop l.i l.nodes) (drop l.taken l.terms) l.walk)
+      (strict_reading l.key l.nodes l.terms);
   within : l.taken ≤ length l.terms;
 }

@@ -5,4 +5,6 @@ use Rattle.refutation.proofs.glance.some_pair_closes.Goals as goal
 
 pub returns : goal.returns
 returns c =
-    none_below (SomeOtherCloses c.args.key.now (record { bounds = c.args.bounds.now; sides = c.args.sides.now })) (place_count c.args.key.now c.args.sides.now) c.loop-place.place (omega (arith, c.place_count-place-end.ensures)) c.loop-place.invariant
+    none_below (SomeOtherCloses c.args.key.now (record { bounds = c.args.bounds.now; sides = c.args.sides.now }))
+    (place_count c.args.key.now c.args.sides.now) c.loop-place.place (omega (arith, c.place_count-place-end.ensures))
+    c.loop-place.invariant

@@ -4,4 +4,5 @@ use Rattle.refutation.proofs.glance.some_unit_closes.Given as goal
 
 -- none of those so far does
 abbrev pub invariant-loop-place : goal.invariant-loop-place
-invariant-loop-place l = (k : ℕ) → k < l.place → IsTrue (unit_closes l.key (record { bounds = l.bounds; sides = l.sides }) k) → ⊥
+invariant-loop-place l =
+    (k : ℕ) → k < l.place → IsTrue (unit_closes l.key (record { bounds = l.bounds; sides = l.sides }) k) → ⊥
