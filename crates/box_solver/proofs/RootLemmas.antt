@@ -1,5 +1,6 @@
 -- Where the lowest corner of the root satisfies the key, no node can be read there, so that the corner is the answer.
-use Rattle.std.proofs.Common.{◌≡◌, ℕ, ℤ, Bool, true, false, ◌&&◌, Some, List, [], ◌∷◌, ◌++◌, length, take, drop, nat_le, refl, subst}
+use Rattle.std.proofs.Common.{◌≡◌, ℕ, ℤ, Bool, true, false, ◌&&◌, Some, List, [], ◌∷◌, ◌++◌, length, take, drop, nat_le}
+use Rattle.std.proofs.Common.{refl, subst}
 use Rattle.std.specs.List.{All, list_any}
 use Rattle.std.proofs.lemmas.List.Elements.{All-head}
 use Rattle.std.specs.Option.{IsSomeAnd}
@@ -40,26 +41,36 @@ left_at_root : RootsOfModelsStayOpen → (key : List PlainKeyAtom) (node : Node)
     → IsKey key → CornerHolds key → KeepsOrder key (record { node = node; box = root_box key })
     → treated true key (root_box key) node terms ≡ Some r → node ≡ Left
 unfolding treated
-left_at_root stay_open key (Split v cut) terms r is holds order read = absurd ((order refl).undecided.corner_fails holds)
+left_at_root stay_open key (Split v cut) terms r is holds order read =
+    absurd ((order refl).undecided.corner_fails holds)
 left_at_root stay_open key (NeSplit i) terms r is holds order read = absurd ((order refl).undecided.corner_fails holds)
 left_at_root stay_open key (Combo count) terms r is holds order read =
-    let closed = leaf_closed (nat_le count (length terms) && closes key (root_box key) (combo (take count terms))) (drop count terms) r read in
-    absurd (stay_open key (combo (take count terms)) (corner key) is holds (and_parts (nat_le count (length terms)) (closes key (root_box key) (combo (take count terms))) closed).1)
-left_at_root stay_open key (Fixed i) terms r is holds order read = absurd (stay_open key (fixed i) (corner key) is holds (leaf_closed (closes key (root_box key) (fixed i)) terms r read))
-left_at_root stay_open key Empty terms r is holds order read = absurd (stay_open key empty (corner key) is holds (leaf_closed (closes key (root_box key) empty) terms r read))
+    let closed = leaf_closed (nat_le count (length terms) && closes key (root_box key) (combo (take count terms)))
+    (drop count terms) r read in
+    absurd (stay_open key (combo (take count terms)) (corner key) is holds
+    (and_parts (nat_le count (length terms)) (closes key (root_box key) (combo (take count terms))) closed).1)
+left_at_root stay_open key (Fixed i) terms r is holds order read =
+    absurd (stay_open key (fixed i) (corner key) is holds
+    (leaf_closed (closes key (root_box key) (fixed i)) terms r read))
+left_at_root stay_open key Empty terms r is holds order read =
+    absurd (stay_open key empty (corner key) is holds (leaf_closed (closes key (root_box key) empty) terms r read))
 left_at_root stay_open key Left terms r is holds order read = refl
 
 -- a search from the root has no node, or begins with a Left
-none_or_left : RootsOfModelsStayOpen → (key : List PlainKeyAtom) (node : Node) (nodes : List Node) (terms : List LeafTerm)
+none_or_left : RootsOfModelsStayOpen → (key : List PlainKeyAtom) (node : Node) (nodes : List Node)
+    (terms : List LeafTerm)
     → IsKey key → CornerHolds key → IsSearchTree key (node ∷ nodes) terms → node ≡ Left
 none_or_left stay_open key node nodes terms is holds h =
     let on = first_is_read true key node nodes terms (root_box key) [] h.no_rest in
     let here : Met = record { node = node; box = root_box key } in
     let behind_it = read_over true key nodes on.after.terms (on.after.boxes ++ []) in
-    let order : All (KeepsOrder key) (here ∷ behind_it.met) = subst (λ (r : TreeReading). All (KeepsOrder key) r.met) on.then_rest h.in_order in
+    let order : All (KeepsOrder key) (here ∷ behind_it.met) = subst (λ (r : TreeReading). All (KeepsOrder key) r.met)
+    on.then_rest h.in_order in
     left_at_root stay_open key node terms on.after is holds (All-head (KeepsOrder key) here behind_it.met order) on.is
 
-pub corner-answers : RootsOfModelsStayOpen → (key : List PlainKeyAtom) (budget : ℕ) (found : Found) (nodes : List Node) (terms : List LeafTerm) → IsKey key → CornerHolds key → IsAnswer key budget found nodes terms → IsModelAt (lowest_corner key (key_bounds key)) found
+pub corner-answers : RootsOfModelsStayOpen
+    → (key : List PlainKeyAtom) (budget : ℕ) (found : Found) (nodes : List Node) (terms : List LeafTerm) → IsKey key
+    → CornerHolds key → IsAnswer key budget found nodes terms → IsModelAt (lowest_corner key (key_bounds key)) found
 unfolding read_over treated
 corner-answers stay_open key budget (Model point) [] terms is holds h = h.corner
 corner-answers stay_open key budget (Model point) (node ∷ nodes) terms is holds h =
@@ -67,14 +78,20 @@ corner-answers stay_open key budget (Model point) (node ∷ nodes) terms is hold
     absurd (with_left node left h.no_left)
   where
     with_left : (n : Node) → n ≡ Left → list_any is_left (n ∷ nodes) ≡ false → ⊥
-    with_left n same none = let begins : list_any is_left (Left ∷ nodes) ≡ false = subst (λ (m : Node). list_any is_left (m ∷ nodes) ≡ false) same none in absurd (cc)
+    with_left n same none =
+        let begins : list_any is_left (Left ∷ nodes)
+        ≡ false = subst (λ (m : Node). list_any is_left (m ∷ nodes) ≡ false) same none in absurd (cc)
 corner-answers stay_open key budget Refuted [] terms is holds h = let none = h.refutes.no_boxes in absurd (cc)
 corner-answers stay_open key budget Refuted (node ∷ nodes) terms is holds h =
-    let refutes : Refutes key (Left ∷ nodes) terms = subst (λ (m : Node). Refutes key (m ∷ nodes) terms) (none_or_left stay_open key node nodes terms is holds h.search) h.refutes in
+    let refutes : Refutes key (Left ∷ nodes) terms = subst (λ (m : Node). Refutes key (m ∷ nodes) terms)
+    (none_or_left stay_open key node nodes terms is holds h.search) h.refutes in
     let none = refutes.no_boxes in
     absurd (cc)
 corner-answers stay_open key budget Spent [] terms is holds h = absurd h.open_tree.first
 corner-answers stay_open key budget Spent (node ∷ nodes) terms is holds h =
     let left = none_or_left stay_open key node nodes terms is holds h.open_tree.search in
-    let first : IsSomeAnd (first_left (search_reading key (Left ∷ nodes) terms).met) (λ (m : Met). IsUndecided key m.box) = subst (λ (n : Node). IsSomeAnd (first_left (search_reading key (n ∷ nodes) terms).met) (λ (m : Met). IsUndecided key m.box)) left h.open_tree.first in
+    let first : IsSomeAnd (first_left (search_reading key (Left ∷ nodes) terms).met)
+    (λ (m : Met). IsUndecided key m.box) = subst
+    (λ (n : Node). IsSomeAnd (first_left (search_reading key (n ∷ nodes) terms).met)
+    (λ (m : Met). IsUndecided key m.box)) left h.open_tree.first in
     first.corner_fails holds

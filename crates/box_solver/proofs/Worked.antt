@@ -17,11 +17,15 @@ use Rattle.box_solver.specs.Answer.{IsAnswer}
 
 -- `v0 <= hi`, `v0 >= lo`
 abbrev from_to : ℤ → ℤ → List PlainKeyAtom
-from_to lo hi = record { form = variable 0; op = Le; constant = hi } ∷ record { form = variable 0; op = Ge; constant = lo } ∷ []
+from_to lo hi =
+    record { form = variable 0; op = Le; constant = hi } ∷ record { form = variable 0; op = Ge; constant = lo } ∷ []
 
 from_three-holds : KeyHolds (from_to (pos 3) (pos 9)) (pos 3 ∷ [])
 from_three-holds =
-    All-cons (λ a. KeyAtomHolds a (pos 3 ∷ [])) (record { form = variable 0; op = Le; constant = pos 9 }) (record { form = variable 0; op = Ge; constant = pos 3 } ∷ []) refl (All-cons (λ a. KeyAtomHolds a (pos 3 ∷ [])) (record { form = variable 0; op = Ge; constant = pos 3 }) [] refl (All-nil (λ a. KeyAtomHolds a (pos 3 ∷ []))))
+    All-cons (λ a. KeyAtomHolds a (pos 3 ∷ [])) (record { form = variable 0; op = Le; constant = pos 9 })
+    (record { form = variable 0; op = Ge; constant = pos 3 } ∷ []) refl
+    (All-cons (λ a. KeyAtomHolds a (pos 3 ∷ [])) (record { form = variable 0; op = Ge; constant = pos 3 }) [] refl
+    (All-nil (λ a. KeyAtomHolds a (pos 3 ∷ []))))
 
 -- over 3 to 9 the lowest corner is the model, without any split
 check_model : IsAnswer (from_to (pos 3) (pos 9)) 1 (Model (record { items = pos 3 ∷ [] })) [] []
@@ -55,7 +59,8 @@ check_refuted = record {
   search = record {
     no_rest = refl;
     no_terms = refl;
-    in_order = All-cons (KeepsOrder empty_key) (record { node = Empty; box = root_box empty_key }) [] (λ inner. absurd (cc)) (All-nil (KeepsOrder empty_key));
+    in_order = All-cons (KeepsOrder empty_key) (record { node = Empty; box = root_box empty_key }) []
+        (λ inner. absurd (cc)) (All-nil (KeepsOrder empty_key));
   };
   few = omega arith;
 }

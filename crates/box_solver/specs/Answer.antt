@@ -19,8 +19,10 @@ abbrev pub IsFirstCorner : List PlainKeyAtom → List PlainBox → List ℤ → 
 IsFirstCorner key [] point = ⊥
 IsFirstCorner key (box ∷ boxes) point = point ≡ lowest_corner key box.bounds
 
--- a model with its tree: the point satisfies the key, and is the lowest corner of the first box that a search by halving leaves after few splits
-pub record IsModelTree (key : List PlainKeyAtom) (budget : ℕ) (point : List ℤ) (nodes : List Node) (terms : List LeafTerm) : Type 0 where
+-- a model with its tree: the point satisfies the key, and is the lowest corner of the first box that a search by
+-- halving leaves after few splits
+pub record IsModelTree (key : List PlainKeyAtom) (budget : ℕ) (point : List ℤ) (nodes : List Node)
+    (terms : List LeafTerm) : Type 0 where
   pub one_each : length point ≡ key_width key
   pub small : All (λ n. unsigned_abs n ≤ 2 ^ 32) point
   pub holds : KeyHolds key point
@@ -30,10 +32,11 @@ pub record IsModelTree (key : List PlainKeyAtom) (budget : ℕ) (point : List �
   pub corner : IsFirstCorner key (undecided_boxes key nodes terms) point
 
 -- a tree that refutes the key, by halving, in few splits
-pub record IsRefutingTree (key : List PlainKeyAtom) (budget : ℕ) (nodes : List Node) (terms : List LeafTerm) : Type 0 where
-  pub refutes : Refutes key nodes terms
-  pub search : IsSearchTree key nodes terms
-  pub few : inner_count nodes ≤ budget
+pub record IsRefutingTree (key : List PlainKeyAtom) (budget : ℕ) (nodes : List Node) (terms : List LeafTerm) : Type 0
+  where
+    pub refutes : Refutes key nodes terms
+    pub search : IsSearchTree key nodes terms
+    pub few : inner_count nodes ≤ budget
 
 -- an open tree by halving, of just as many splits as the budget, which is below the room of the key
 pub record IsSpentTree (key : List PlainKeyAtom) (budget : ℕ) (nodes : List Node) (terms : List LeafTerm) : Type 0 where

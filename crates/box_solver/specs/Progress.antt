@@ -20,7 +20,8 @@ pub record IsSearchBox (key : List PlainKeyAtom) (box : PlainBox) : Type 0 where
   pub short : HasShortSides box.bounds
 
 -- the nodes and terms are a search tree with this many splits, without Left, that leaves these boxes
-pub record HasRead (key : List PlainKeyAtom) (splits : ℕ) (nodes : List Node) (terms : List LeafTerm) (boxes : List PlainBox) : Type 0 where
+pub record HasRead (key : List PlainKeyAtom) (splits : ℕ) (nodes : List Node) (terms : List LeafTerm)
+    (boxes : List PlainBox) : Type 0 where
   pub narrow : key_width key ≤ 64
   pub search : IsSearchTree key nodes terms
   pub left : undecided_boxes key nodes terms ≡ boxes

@@ -2,7 +2,8 @@
 
 ghost use Rattle.std.specs.Prelude.{◌≡◌, true, length, MatchOption};
 ghost use Rattle.refutation.specs.Walk.{OnFirst};
-ghost use Rattle.box_solver.specs.OneAtom.{unit_term, NoUnitCloses, NoTermCloses, NoFixedCloses, IsClosingTerm, ClosesBy};
+ghost use Rattle.box_solver.specs.OneAtom.{unit_term, NoUnitCloses, NoTermCloses, NoFixedCloses, IsClosingTerm};
+ghost use Rattle.box_solver.specs.OneAtom.{ClosesBy};
 ghost use Rattle.refutation.specs.Laws.{NoAtomOfTheKeyCloses};
 ghost use Rattle.refutation.specs.Leaf.{fixed_closes};
 
@@ -18,7 +19,8 @@ pub enum OneAtom {
     Fixed(u16),
 }
 
-/// What closes the first box by one atom: the first term that does, else the first atom whose form has one value there that fails.
+/// What closes the first box by one atom: the first term that does, else the first atom whose form has one value there
+/// that fails.
 pub fn closing_atom(key: &Key, walk: &Walk) -> Option<OneAtom>
     ensures { OnFirst walk.now (λ box _.
         MatchOption result (NoAtomOfTheKeyCloses key.now box) (λ found. ClosesBy key.now box found)) }

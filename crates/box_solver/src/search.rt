@@ -1,6 +1,7 @@
 //! The search itself.
 
-ghost use Rattle.std.specs.Prelude.{◌≡◌, ◌≤◌, ◌<◌, ◌+◌, [], ◌∷◌, ℕ, List, length, IfOk, OnOk, IfErr, OnErr, MatchResult, replicate};
+ghost use Rattle.std.specs.Prelude.{◌≡◌, ◌≤◌, ◌<◌, ◌+◌, [], ◌∷◌, ℕ, List, length, IfOk, OnOk, IfErr, OnErr};
+ghost use Rattle.std.specs.Prelude.{MatchResult, replicate};
 ghost use Rattle.lin_model.specs.KeyAtom.{PlainKeyAtom};
 ghost use Rattle.refutation.specs.declared.node.Node.TheVariants.{Left};
 ghost use Rattle.refutation.specs.Boxed.{IsBoxed};
@@ -25,9 +26,14 @@ use refutation::{
 };
 use std::alloc::Global;
 
-/// Searches for a point that satisfies the key, with at most `budget` splits, and appends the search's tree to the region.
+/// Searches for a point that satisfies the key, with at most `budget` splits, and appends the search's tree to the
+/// region.
 ///
-/// The first undecided box is closed where one atom closes it; its lowest corner, every variable at its lower side, is the model where it satisfies the key; and otherwise the box is halved: its widest variable, the first among equals, is split at the middle of its sides, rounded down. `Spent` comes where a box must be split and the budget is used up; then this box and all others that are left are marked `Left`. It never comes where the budget is at least the room of the key. `NoMemory` leaves the region as it was.
+/// The first undecided box is closed where one atom closes it; its lowest corner, every variable at its lower side, is
+/// the model where it satisfies the key; and otherwise the box is halved: its widest variable, the first among equals,
+/// is split at the middle of its sides, rounded down. `Spent` comes where a box must be split and the budget is used
+/// up; then this box and all others that are left are marked `Left`. It never comes where the budget is at least the
+/// room of the key. `NoMemory` leaves the region as it was.
 pub fn solve(
     alloc: Global,
     key: &Key,
