@@ -1,5 +1,4 @@
 mod ReadLemmas
-mod OneAtomLemmas
 mod HalvesLemmas
 mod CornerLemmas
 mod RegionLemmas

@@ -30,4 +30,7 @@ IsModelAt point Spent = ⊥
 
 -- where the lowest corner of the key's bounds satisfies the key, that corner is the answer
 abbrev pub CornerIsAnswer : Type 0
-CornerIsAnswer = (key : List PlainKeyAtom) (budget : ℕ) (found : Found) (nodes : List Node) (terms : List LeafTerm) → IsKey key → KeyHolds key (lowest_corner key (key_bounds key)) → IsAnswer key budget found nodes terms → IsModelAt (lowest_corner key (key_bounds key)) found
+CornerIsAnswer =
+    (key : List PlainKeyAtom) (budget : ℕ) (found : Found) (nodes : List Node) (terms : List LeafTerm) → IsKey key
+    → KeyHolds key (lowest_corner key (key_bounds key)) → IsAnswer key budget found nodes terms
+    → IsModelAt (lowest_corner key (key_bounds key)) found

@@ -46,8 +46,3 @@ NoTermCloses key box = (i : ℕ) → i < length key → NoUnitCloses key box i
 -- no atom has one value in the box, which fails its test
 abbrev pub NoFixedCloses : List PlainKeyAtom → PlainBox → Type 0
 NoFixedCloses key box = (i : ℕ) → i < length key → fixed_closes key box.bounds i ≡ false
-
--- no atom closes the box in either way
-pub record NoAtomCloses (key : List PlainKeyAtom) (box : PlainBox) : Type 0 where
-  pub no_term : NoTermCloses key box
-  pub no_fixed : NoFixedCloses key box

@@ -8,8 +8,9 @@ use Rattle.refutation.specs.declared.node.Node.{Node}
 use Rattle.refutation.specs.Bounds.{is_empty}
 use Rattle.refutation.specs.Box.{PlainBox}
 use Rattle.refutation.specs.Boxed.{IsBoxedIn, HasShortSides}
-use Rattle.refutation.specs.SearchTree.{halving, IsUndecided, IsSearchTree, undecided_boxes, inner_count, is_left}
-use Rattle.box_solver.specs.Region.{PlainRegion, Adds}
+use Rattle.refutation.specs.SearchTree.{IsUndecided, IsSearchTree, undecided_boxes, inner_count, is_left}
+use Rattle.refutation.specs.Tree.{PlainTree}
+use Rattle.box_solver.specs.Region.{Adds}
 
 -- what each box of a search keeps
 pub record IsSearchBox (key : List PlainKeyAtom) (box : PlainBox) : Type 0 where
@@ -19,16 +20,17 @@ pub record IsSearchBox (key : List PlainKeyAtom) (box : PlainBox) : Type 0 where
   pub short : HasShortSides box.bounds
 
 -- the nodes and terms are a search tree with this many splits, without Left, that leaves these boxes
-pub record HasRead (key : List PlainKeyAtom) (splits : ℕ) (nodes : List Node) (terms : List LeafTerm) (boxes : List PlainBox) : Type 0 where
+pub record HasRead (key : List PlainKeyAtom) (splits : ℕ) (nodes : List Node) (terms : List LeafTerm)
+    (boxes : List PlainBox) : Type 0 where
   pub narrow : key_width key ≤ 64
-  pub search : IsSearchTree halving key nodes terms
+  pub search : IsSearchTree key nodes terms
   pub left : undecided_boxes key nodes terms ≡ boxes
   pub inner : inner_count nodes ≡ splits
   pub no_left : list_any is_left nodes ≡ false
   pub fit : All (IsSearchBox key) boxes
 
 -- the region has behind its base such nodes and terms
-pub record IsAt (key : List PlainKeyAtom) (base region : PlainRegion) (splits : ℕ) (boxes : List PlainBox) : Type 0 where
+pub record IsAt (key : List PlainKeyAtom) (base region : PlainTree) (splits : ℕ) (boxes : List PlainBox) : Type 0 where
   pub nodes : List Node
   pub terms : List LeafTerm
   pub adds : Adds base region nodes terms
@@ -37,4 +39,4 @@ pub record IsAt (key : List PlainKeyAtom) (base region : PlainRegion) (splits : 
 -- there is a first box, and the search has to split it
 abbrev pub FirstIsSplit : List PlainKeyAtom → List PlainBox → Type 0
 FirstIsSplit key [] = ⊥
-FirstIsSplit key (box ∷ boxes) = IsSearchBox key box × IsUndecided halving key box
+FirstIsSplit key (box ∷ boxes) = IsSearchBox key box × IsUndecided key box

@@ -1,8 +1,10 @@
 //! One atom that closes a box: a combination of one term, or a form with one value.
 
-ghost use Rattle.std.specs.Prelude.{◌≡◌, true, List, ◌∷◌, length, MatchOption};
-ghost use Rattle.refutation.specs.Box.{PlainBox};
-ghost use Rattle.box_solver.specs.OneAtom.{unit_term, NoUnitCloses, NoTermCloses, NoFixedCloses, NoAtomCloses, IsClosingTerm, ClosesBy};
+ghost use Rattle.std.specs.Prelude.{◌≡◌, true, length, MatchOption};
+ghost use Rattle.refutation.specs.Walk.{OnFirst};
+ghost use Rattle.box_solver.specs.OneAtom.{unit_term, NoUnitCloses, NoTermCloses, NoFixedCloses, IsClosingTerm};
+ghost use Rattle.box_solver.specs.OneAtom.{ClosesBy};
+ghost use Rattle.refutation.specs.Laws.{NoAtomOfTheKeyCloses};
 ghost use Rattle.refutation.specs.Leaf.{fixed_closes};
 
 use lin_model::Key;
@@ -17,10 +19,11 @@ pub enum OneAtom {
     Fixed(u16),
 }
 
-/// What closes the first box by one atom: the first term that does, else the first atom whose form has one value there that fails.
+/// What closes the first box by one atom: the first term that does, else the first atom whose form has one value there
+/// that fails.
 pub fn closing_atom(key: &Key, walk: &Walk) -> Option<OneAtom>
-    ensures { (box : PlainBox) (rest : List PlainBox) → walk.now ≡ box ∷ rest
-        → MatchOption result (NoAtomCloses key.now box) (λ found. ClosesBy key.now box found) }
+    ensures { OnFirst walk.now (λ box _.
+        MatchOption result (NoAtomOfTheKeyCloses key.now box) (λ found. ClosesBy key.now box found)) }
 {
     match closing_term(key, walk) {
         Some(term) => Some(OneAtom::Term(term)),
@@ -33,8 +36,8 @@ pub fn closing_atom(key: &Key, walk: &Walk) -> Option<OneAtom>
 
 /// The first atom whose factor 1, or else -1, closes the first box.
 fn closing_term(key: &Key, walk: &Walk) -> Option<LeafTerm>
-    ensures { (box : PlainBox) (rest : List PlainBox) → walk.now ≡ box ∷ rest
-        → MatchOption result (NoTermCloses key.now box) (λ term. IsClosingTerm key.now box term) }
+    ensures { OnFirst walk.now (λ box _.
+        MatchOption result (NoTermCloses key.now box) (λ term. IsClosingTerm key.now box term)) }
 {
     for number in 0..atom_count(key) {
         if let Some(term) = closing_unit(key, walk, number) {
@@ -46,8 +49,8 @@ fn closing_term(key: &Key, walk: &Walk) -> Option<LeafTerm>
 
 /// The term of this atom with the factor 1, or else -1, that closes the first box.
 fn closing_unit(key: &Key, walk: &Walk, number: u16) -> Option<LeafTerm>
-    ensures { (box : PlainBox) (rest : List PlainBox) → walk.now ≡ box ∷ rest
-        → MatchOption result (NoUnitCloses key.now box number) (λ term. IsClosingTerm key.now box term) }
+    ensures { OnFirst walk.now (λ box _.
+        MatchOption result (NoUnitCloses key.now box number) (λ term. IsClosingTerm key.now box term)) }
 {
     let term = unit_term(number, 1);
     if walk.combo_closes(key, &[term]) {
@@ -72,8 +75,8 @@ fn unit_term(number: u16, factor: i64) -> LeafTerm
 
 /// The first atom whose form has one value in the first box, which fails its test.
 fn closing_fixed(key: &Key, walk: &Walk) -> Option<u16>
-    ensures { (box : PlainBox) (rest : List PlainBox) → walk.now ≡ box ∷ rest
-        → MatchOption result (NoFixedCloses key.now box) (λ i. fixed_closes key.now box.bounds i ≡ true) }
+    ensures { OnFirst walk.now (λ box _.
+        MatchOption result (NoFixedCloses key.now box) (λ i. fixed_closes key.now box.bounds i ≡ true)) }
 {
     for number in 0..atom_count(key) {
         if walk.fixed_closes(key, number) {

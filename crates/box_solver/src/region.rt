@@ -16,9 +16,9 @@ pub struct TreeRegion {
 }
 
 impl Model for TreeRegion {
-    ghost use Rattle.box_solver.specs.Region.{PlainRegion};
+    ghost use Rattle.refutation.specs.Tree.{PlainTree};
 
-    ghost Value = { PlainRegion };
+    ghost Value = { PlainTree };
 
     ghost view = { λ r. record { nodes = r.nodes.items; terms = r.terms.items } };
 }

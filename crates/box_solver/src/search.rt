@@ -1,12 +1,14 @@
 //! The search itself.
 
-ghost use Rattle.std.specs.Prelude.{◌≡◌, ◌≤◌, ◌<◌, ◌+◌, [], ◌∷◌, ℕ, List, length, IfOk, OnOk, IfErr, OnErr, MatchResult, replicate};
+ghost use Rattle.std.specs.Prelude.{◌≡◌, ◌≤◌, ◌<◌, ◌+◌, [], ◌∷◌, ℕ, List, length, IfOk, OnOk, IfErr, OnErr};
+ghost use Rattle.std.specs.Prelude.{MatchResult, replicate};
 ghost use Rattle.lin_model.specs.KeyAtom.{PlainKeyAtom};
 ghost use Rattle.refutation.specs.declared.node.Node.TheVariants.{Left};
-ghost use Rattle.refutation.specs.Box.{PlainBox};
 ghost use Rattle.refutation.specs.Boxed.{IsBoxed};
-ghost use Rattle.refutation.specs.SearchTree.{halving, IsUndecided};
-ghost use Rattle.box_solver.specs.Region.{PlainRegion, Adds, Grows};
+ghost use Rattle.refutation.specs.SearchTree.{IsUndecided};
+ghost use Rattle.refutation.specs.Tree.{PlainTree};
+ghost use Rattle.refutation.specs.Walk.{OnFirst};
+ghost use Rattle.box_solver.specs.Region.{Adds, Grows};
 ghost use Rattle.box_solver.specs.OneAtom.{ClosesBy, node_by, terms_by};
 ghost use Rattle.box_solver.specs.Halving.{AddsHalving};
 ghost use Rattle.box_solver.specs.Progress.{IsAt, FirstIsSplit};
@@ -24,9 +26,14 @@ use refutation::{
 };
 use std::alloc::Global;
 
-/// Searches for a point that satisfies the key, with at most `budget` splits, and appends the search's tree to the region.
+/// Searches for a point that satisfies the key, with at most `budget` splits, and appends the search's tree to the
+/// region.
 ///
-/// The first undecided box is closed where one atom closes it; its lowest corner, every variable at its lower side, is the model where it satisfies the key; and otherwise the box is halved: its widest variable, the first among equals, is split at the middle of its sides, rounded down. `Spent` comes where a box must be split and the budget is used up; then this box and all others that are left are marked `Left`. It never comes where the budget is at least the room of the key. `NoMemory` leaves the region as it was.
+/// The first undecided box is closed where one atom closes it; its lowest corner, every variable at its lower side, is
+/// the model where it satisfies the key; and otherwise the box is halved: its widest variable, the first among equals,
+/// is split at the middle of its sides, rounded down. `Spent` comes where a box must be split and the budget is used
+/// up; then this box and all others that are left are marked `Left`. It never comes where the budget is at least the
+/// room of the key. `NoMemory` leaves the region as it was.
 pub fn solve(
     alloc: Global,
     key: &Key,
@@ -85,9 +92,9 @@ fn search(alloc: Global, key: &Key, budget: u32, region: &mut TreeRegion) -> Res
 /// Closes the first box by one atom.
 fn close_by(walk: &mut Walk, region: &mut TreeRegion, found: OneAtom) -> Result<(), NoMemory>
     requires { 0 < length walk.old }
-    ensures at { (key : List PlainKeyAtom) (base : PlainRegion) (splits : ℕ) (box : PlainBox) (rest : List PlainBox)
-        → walk.old ≡ box ∷ rest → ClosesBy key box found → IsAt key base region.old splits walk.old
-        → OnOk result (IsAt key base region.new splits walk.new × (walk.new ≡ rest)) }
+    ensures at { (key : List PlainKeyAtom) (base : PlainTree) (splits : ℕ) → IsAt key base region.old splits walk.old
+        → OnFirst walk.old (λ box rest. ClosesBy key box found
+        → OnOk result (IsAt key base region.new splits walk.new × (walk.new ≡ rest))) }
     ensures grows { Grows region.old region.new }
 {
     push_leaf(region, found)?;
@@ -111,10 +118,10 @@ fn push_leaf(region: &mut TreeRegion, found: OneAtom) -> Result<(), NoMemory>
 /// Splits the first box at the middle of its widest variable.
 fn halve(key: &Key, walk: &mut Walk, region: &mut TreeRegion) -> Result<(), NoMemory>
     requires { FirstIsSplit key.now walk.old }
-    ensures at { (base : PlainRegion) (splits : ℕ) → IsAt key.now base region.old splits walk.old
+    ensures at { (base : PlainTree) (splits : ℕ) → IsAt key.now base region.old splits walk.old
         → OnOk result (IsAt key.now base region.new (splits + 1) walk.new × (length walk.new ≡ length walk.old + 1)) }
-    ensures halving { (box : PlainBox) (rest : List PlainBox) → walk.old ≡ box ∷ rest
-        → OnOk result (AddsHalving key.now box.bounds region.old region.new) }
+    ensures halving { OnFirst walk.old (λ box _.
+        OnOk result (AddsHalving key.now box.bounds region.old region.new)) }
     ensures grows { Grows region.old region.new }
 {
     cuts_leave_proper_halves();

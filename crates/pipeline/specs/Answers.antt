@@ -9,7 +9,7 @@ use Rattle.canoniser.specs.Numbering.{order_of}
 use Rattle.canoniser.specs.Solutions.{IsNeverAt, point_of}
 use Rattle.refutation.specs.Tree.{PlainTree}
 use Rattle.refutation.specs.Reading.{HasNoPoint}
-use Rattle.refutation.specs.SearchTree.{halving, IsOpenTree, room}
+use Rattle.refutation.specs.SearchTree.{IsOpenTree, room}
 use Rattle.refutation.specs.declared.leaf.LeafTerm.{LeafTerm}
 use Rattle.refutation.specs.declared.node.Node.{Node}
 use Rattle.box_solver.specs.Answer.{IsModelTree, IsRefutingTree}
@@ -40,7 +40,7 @@ pub record IsRefuted (budget : ℕ) (key : List PlainKeyAtom) : Type 0 where
 
 -- just the splits of the budget were spent, and they are fewer than the key has room for
 pub record IsSpentOn (budget : ℕ) (key : List PlainKeyAtom) (tree : PlainTree) : Type 0 where
-  pub open_tree : IsOpenTree halving key budget tree.nodes tree.terms
+  pub open_tree : IsOpenTree key budget tree.nodes tree.terms
   pub below_room : budget < room key
 
 -- what a reply says of the key

@@ -1,5 +1,7 @@
 -- Bounds, side by side.
-use Rattle.std.proofs.Common.{◌≡◌, ℕ, zero, suc, ◌+◌, ◌<◌, ◌≤◌, ℤ, pos, ◌+ℤ◌, false, cond, eqb, Option, Some, None, List, [], ◌∷◌, length, get_or, set, drop, replicate, ⊎_elim, refl, ap, sym, ◌∙◌, subst, arith}
+use Rattle.std.proofs.Common.{◌≡◌, ℕ, zero, suc, ◌+◌, ◌<◌, ◌≤◌, ℤ, pos, ◌+ℤ◌, false, cond, eqb, Option, Some, None}
+use Rattle.std.proofs.Common.{List, [], ◌∷◌, length, get_or, set, drop, replicate, ⊎_elim, refl, ap, sym, ◌∙◌, subst}
+use Rattle.std.proofs.Common.{arith}
 use Rattle.std.specs.Int.{int_max, int_min}
 use Rattle.std.proofs.lemmas.List.Folds.{list_any_none}
 use Rattle.std.proofs.lemmas.Bool.{cases_lt, cases_eq, cond-true, cond-false, eq-eqb, ne_eqb}
@@ -10,15 +12,21 @@ use Rattle.std.proofs.lemmas.List.Elements.{All-same, All-replicate}
 use Rattle.std.proofs.lemmas.List.FromFn.{fill_by_all}
 use Rattle.lin_model.specs.declared.form.FormTerm.{FormTerm}
 use Rattle.lin_model.specs.KeyAtom.{PlainKeyAtom, AscendsBelow64}
-use Rattle.refutation.specs.Bounds.{PlainBounds, lower_of, upper_of, variables, tighter_lower, tighter_upper, lower_from, upper_from, lower_bound, upper_bound, key_bounds, with_lower, with_upper, crosses, is_empty, AreBounds, IsSide, add_known, scaled_side, least, greatest}
+use Rattle.refutation.specs.Bounds.{PlainBounds, lower_of, upper_of, variables, tighter_lower, tighter_upper}
+use Rattle.refutation.specs.Bounds.{lower_from, upper_from, lower_bound, upper_bound, key_bounds, with_lower}
+use Rattle.refutation.specs.Bounds.{with_upper, crosses, is_empty, AreBounds, IsSide, add_known, scaled_side, least}
+use Rattle.refutation.specs.Bounds.{greatest}
 use Rattle.refutation.specs.Facts.{variable-at, variables-length}
 
 -- ---- emptiness
 
-pub is_empty-false : (b : PlainBounds) → ((v : ℕ) → v < 64 → crosses (lower_of b v) (upper_of b v) ≡ false) → is_empty b ≡ false
+pub is_empty-false : (b : PlainBounds) → ((v : ℕ) → v < 64 → crosses (lower_of b v) (upper_of b v) ≡ false)
+    → is_empty b ≡ false
 unfolding is_empty
 is_empty-false b h =
-    list_any_none (λ w. crosses (lower_of b w) (upper_of b w)) variables (λ v d lt. let within : v < 64 = omega (arith, variables-length) in subst (λ w. crosses (lower_of b w) (upper_of b w) ≡ false) (sym (variable-at v d within)) (h v within))
+    list_any_none (λ w. crosses (lower_of b w) (upper_of b w)) variables
+    (λ v d lt. let within : v < 64 = omega (arith, variables-length) in
+    subst (λ w. crosses (lower_of b w) (upper_of b w) ≡ false) (sym (variable-at v d within)) (h v within))
 
 -- ---- one side tightened
 
@@ -30,49 +38,79 @@ tighter_upper-none : (o : Option ℤ) → tighter_upper o None ≡ o
 tighter_upper-none None = refl
 tighter_upper-none (Some x) = refl
 
-tighter_lower-tighter_lower : (o p q : Option ℤ) → tighter_lower (tighter_lower o p) q ≡ tighter_lower o (tighter_lower p q)
+tighter_lower-tighter_lower : (o p q : Option ℤ) → tighter_lower (tighter_lower o p) q
+    ≡ tighter_lower o (tighter_lower p q)
 tighter_lower-tighter_lower None p q = refl
 tighter_lower-tighter_lower (Some x) None q = refl
 tighter_lower-tighter_lower (Some x) (Some y) None = refl
-tighter_lower-tighter_lower (Some x) (Some y) (Some z) = let same : int_max (int_max x y) z ≡ int_max x (int_max y z) = omega (arith, ints, clamps) in ap Some same
+tighter_lower-tighter_lower (Some x) (Some y) (Some z) =
+    let same : int_max (int_max x y) z ≡ int_max x (int_max y z) = omega (arith, ints, clamps) in ap Some same
 
-tighter_upper-tighter_upper : (o p q : Option ℤ) → tighter_upper (tighter_upper o p) q ≡ tighter_upper o (tighter_upper p q)
+tighter_upper-tighter_upper : (o p q : Option ℤ) → tighter_upper (tighter_upper o p) q
+    ≡ tighter_upper o (tighter_upper p q)
 tighter_upper-tighter_upper None p q = refl
 tighter_upper-tighter_upper (Some x) None q = refl
 tighter_upper-tighter_upper (Some x) (Some y) None = refl
-tighter_upper-tighter_upper (Some x) (Some y) (Some z) = let same : int_min (int_min x y) z ≡ int_min x (int_min y z) = omega (arith, ints, clamps) in ap Some same
+tighter_upper-tighter_upper (Some x) (Some y) (Some z) =
+    let same : int_min (int_min x y) z ≡ int_min x (int_min y z) = omega (arith, ints, clamps) in ap Some same
 
 -- a list in which the place w was tightened, read at v
-tightened_at : (f : Option ℤ → Option ℤ → Option ℤ) (none : (o : Option ℤ) → f o None ≡ o) (xs : List (Option ℤ)) (w v : ℕ) (side : Option ℤ) → w < length xs → get_or (set xs w (f (get_or xs w None) side)) v None ≡ f (get_or xs v None) (cond (eqb w v) side None)
+tightened_at : (f : Option ℤ → Option ℤ → Option ℤ) (none : (o : Option ℤ) → f o None ≡ o) (xs : List (Option ℤ))
+    (w v : ℕ) (side : Option ℤ) → w < length xs → get_or (set xs w (f (get_or xs w None) side)) v None
+    ≡ f (get_or xs v None) (cond (eqb w v) side None)
 tightened_at f none xs w v side lt =
-    ⊎_elim (λ same. subst (λ u. get_or (set xs w (f (get_or xs w None) side)) u None ≡ f (get_or xs u None) (cond (eqb w u) side None)) same (get_or-set_same xs w (f (get_or xs w None) side) None lt ∙ ap (λ (o : Option ℤ). f (get_or xs w None) o) (sym (cond-true (eqb w w) side None (eq-eqb w w refl))))) (λ other. get_or-set_other xs w v (f (get_or xs w None) side) None (λ e. other (sym e)) ∙ sym (ap (λ (o : Option ℤ). f (get_or xs v None) o) (cond-false (eqb w v) side None (ne_eqb w v other)) ∙ none (get_or xs v None))) (cases_eq w v)
+    ⊎_elim (λ same. subst (λ u. get_or (set xs w (f (get_or xs w None) side)) u None
+    ≡ f (get_or xs u None) (cond (eqb w u) side None)) same
+    (get_or-set_same xs w (f (get_or xs w None) side) None lt
+    ∙ ap (λ (o : Option ℤ). f (get_or xs w None) o) (sym (cond-true (eqb w w) side None (eq-eqb w w refl)))))
+    (λ other. get_or-set_other xs w v (f (get_or xs w None) side) None (λ e. other (sym e))
+    ∙ sym (ap (λ (o : Option ℤ). f (get_or xs v None) o) (cond-false (eqb w v) side None (ne_eqb w v other))
+    ∙ none (get_or xs v None))) (cases_eq w v)
 
-pub with_lower-at : (b : PlainBounds) (w v : ℕ) (n : ℤ) → w < length b.lower → lower_of (with_lower b w n) v ≡ tighter_lower (lower_of b v) (cond (eqb w v) (Some n) None)
+pub with_lower-at : (b : PlainBounds) (w v : ℕ) (n : ℤ) → w < length b.lower
+    → lower_of (with_lower b w n) v ≡ tighter_lower (lower_of b v) (cond (eqb w v) (Some n) None)
 with_lower-at b w v n lt = tightened_at tighter_lower tighter_lower-none b.lower w v (Some n) lt
 
-pub with_upper-at : (b : PlainBounds) (w v : ℕ) (n : ℤ) → w < length b.upper → upper_of (with_upper b w n) v ≡ tighter_upper (upper_of b v) (cond (eqb w v) (Some n) None)
+pub with_upper-at : (b : PlainBounds) (w v : ℕ) (n : ℤ) → w < length b.upper
+    → upper_of (with_upper b w n) v ≡ tighter_upper (upper_of b v) (cond (eqb w v) (Some n) None)
 with_upper-at b w v n lt = tightened_at tighter_upper tighter_upper-none b.upper w v (Some n) lt
 
 -- ---- all atoms of a key, one after another
 
-pub lower_step : (atoms : List PlainKeyAtom) (i v : ℕ) (d : PlainKeyAtom) (before after whole : Option ℤ) → i < length atoms → after ≡ tighter_lower before (lower_from (get_or atoms i d) v) → tighter_lower before (lower_bound (drop i atoms) v) ≡ whole → tighter_lower after (lower_bound (drop (i + 1) atoms) v) ≡ whole
+pub lower_step : (atoms : List PlainKeyAtom) (i v : ℕ) (d : PlainKeyAtom) (before after whole : Option ℤ)
+    → i < length atoms → after ≡ tighter_lower before (lower_from (get_or atoms i d) v)
+    → tighter_lower before (lower_bound (drop i atoms) v) ≡ whole
+    → tighter_lower after (lower_bound (drop (i + 1) atoms) v) ≡ whole
 lower_step atoms i v d before after whole lt is h =
-    ap (λ (o : Option ℤ). tighter_lower o (lower_bound (drop (i + 1) atoms) v)) is ∙ tighter_lower-tighter_lower before (lower_from (get_or atoms i d) v) (lower_bound (drop (i + 1) atoms) v) ∙ ap (λ (xs : List PlainKeyAtom). tighter_lower before (lower_bound xs v)) (sym (drop_more atoms i d lt)) ∙ h
+    ap (λ (o : Option ℤ). tighter_lower o (lower_bound (drop (i + 1) atoms) v)) is
+    ∙ tighter_lower-tighter_lower before (lower_from (get_or atoms i d) v) (lower_bound (drop (i + 1) atoms) v)
+    ∙ ap (λ (xs : List PlainKeyAtom). tighter_lower before (lower_bound xs v)) (sym (drop_more atoms i d lt)) ∙ h
 
-pub upper_step : (atoms : List PlainKeyAtom) (i v : ℕ) (d : PlainKeyAtom) (before after whole : Option ℤ) → i < length atoms → after ≡ tighter_upper before (upper_from (get_or atoms i d) v) → tighter_upper before (upper_bound (drop i atoms) v) ≡ whole → tighter_upper after (upper_bound (drop (i + 1) atoms) v) ≡ whole
+pub upper_step : (atoms : List PlainKeyAtom) (i v : ℕ) (d : PlainKeyAtom) (before after whole : Option ℤ)
+    → i < length atoms → after ≡ tighter_upper before (upper_from (get_or atoms i d) v)
+    → tighter_upper before (upper_bound (drop i atoms) v) ≡ whole
+    → tighter_upper after (upper_bound (drop (i + 1) atoms) v) ≡ whole
 upper_step atoms i v d before after whole lt is h =
-    ap (λ (o : Option ℤ). tighter_upper o (upper_bound (drop (i + 1) atoms) v)) is ∙ tighter_upper-tighter_upper before (upper_from (get_or atoms i d) v) (upper_bound (drop (i + 1) atoms) v) ∙ ap (λ (xs : List PlainKeyAtom). tighter_upper before (upper_bound xs v)) (sym (drop_more atoms i d lt)) ∙ h
+    ap (λ (o : Option ℤ). tighter_upper o (upper_bound (drop (i + 1) atoms) v)) is
+    ∙ tighter_upper-tighter_upper before (upper_from (get_or atoms i d) v) (upper_bound (drop (i + 1) atoms) v)
+    ∙ ap (λ (xs : List PlainKeyAtom). tighter_upper before (upper_bound xs v)) (sym (drop_more atoms i d lt)) ∙ h
 
-pub lower_end : (atoms : List PlainKeyAtom) (i v : ℕ) (side whole : Option ℤ) → length atoms ≤ i → tighter_lower side (lower_bound (drop i atoms) v) ≡ whole → side ≡ whole
+pub lower_end : (atoms : List PlainKeyAtom) (i v : ℕ) (side whole : Option ℤ) → length atoms ≤ i
+    → tighter_lower side (lower_bound (drop i atoms) v) ≡ whole → side ≡ whole
 lower_end atoms i v side whole le h =
-    sym (tighter_lower-none side) ∙ ap (λ (xs : List PlainKeyAtom). tighter_lower side (lower_bound xs v)) (sym (drop_of_length-le atoms le)) ∙ h
+    sym (tighter_lower-none side) ∙ ap (λ (xs : List PlainKeyAtom). tighter_lower side (lower_bound xs v))
+    (sym (drop_of_length-le atoms le)) ∙ h
 
-pub upper_end : (atoms : List PlainKeyAtom) (i v : ℕ) (side whole : Option ℤ) → length atoms ≤ i → tighter_upper side (upper_bound (drop i atoms) v) ≡ whole → side ≡ whole
+pub upper_end : (atoms : List PlainKeyAtom) (i v : ℕ) (side whole : Option ℤ) → length atoms ≤ i
+    → tighter_upper side (upper_bound (drop i atoms) v) ≡ whole → side ≡ whole
 upper_end atoms i v side whole le h =
-    sym (tighter_upper-none side) ∙ ap (λ (xs : List PlainKeyAtom). tighter_upper side (upper_bound xs v)) (sym (drop_of_length-le atoms le)) ∙ h
+    sym (tighter_upper-none side) ∙ ap (λ (xs : List PlainKeyAtom). tighter_upper side (upper_bound xs v))
+    (sym (drop_of_length-le atoms le)) ∙ h
 
 -- bounds of 64 variables each are those of the key where they are so one by one
-pub key_bounds-from_each : (b : PlainBounds) (key : List PlainKeyAtom) → AreBounds b → ((v : ℕ) → v < 64 → lower_of b v ≡ lower_bound key v) → ((v : ℕ) → v < 64 → upper_of b v ≡ upper_bound key v) → b ≡ key_bounds key
+pub key_bounds-from_each : (b : PlainBounds) (key : List PlainKeyAtom) → AreBounds b
+    → ((v : ℕ) → v < 64 → lower_of b v ≡ lower_bound key v) → ((v : ℕ) → v < 64 → upper_of b v ≡ upper_bound key v)
+    → b ≡ key_bounds key
 unfolding key_bounds variables
 key_bounds-from_each b key limits low high = λ i. record {
   lower = fill_by_all (lower_bound key) b.lower 64 None limits.lower_len low i;
@@ -82,24 +120,37 @@ key_bounds-from_each b key limits low high = λ i. record {
 -- ---- values of forms
 
 -- variables that ascend are at most as many as their range
-ascend_above : (form : List FormTerm) (k : ℕ) (d : FormTerm) → AscendsBelow64 form → k < length form → k ≤ (get_or form k d).var
+ascend_above : (form : List FormTerm) (k : ℕ) (d : FormTerm) → AscendsBelow64 form → k < length form
+    → k ≤ (get_or form k d).var
 ascend_above form zero d h lt = omega arith
 ascend_above form (suc k) d h lt =
     let before : k ≤ (get_or form k d).var = ascend_above form k d h (omega arith) in
     let next : (get_or form k d).var < (get_or form (k + 1) d).var = h.ascend k d (omega arith) in
-    let same : (get_or form (k + 1) d).var ≡ (get_or form (suc k) d).var = ap (λ (n : ℕ). (get_or form n d).var) (omega arith) in
+    let same : (get_or form (k + 1) d).var ≡ (get_or form (suc k) d).var = ap (λ (n : ℕ). (get_or form n d).var)
+    (omega arith) in
     omega arith
 
 pub AscendsBelow64-few : (form : List FormTerm) → AscendsBelow64 form → length form ≤ 64
-AscendsBelow64-few form h = ⊎_elim (λ lt. absurd (omega (arith, ascend_above form 64 (record { var = 0; coef = pos 0 }) h lt, h.in_range 64 (record { var = 0; coef = pos 0 }) lt))) (λ le. le) (cases_lt 64 (length form))
+AscendsBelow64-few form h =
+    ⊎_elim
+    (λ lt. absurd
+    (omega (
+      arith,
+      ascend_above form 64 (record { var = 0; coef = pos 0 }) h lt,
+      h.in_range 64
+          (record { var = 0; coef = pos 0 }) lt,
+    ))) (λ le. le) (cases_lt 64 (length form))
 
 -- the greatest value is the least with the sides exchanged
-pub greatest-swapped : (form : List FormTerm) (lo hi : List (Option ℤ)) → least form (record { lower = hi; upper = lo }) ≡ greatest form (record { lower = lo; upper = hi })
+pub greatest-swapped : (form : List FormTerm) (lo hi : List (Option ℤ))
+    → least form (record { lower = hi; upper = lo }) ≡ greatest form (record { lower = lo; upper = hi })
 unfolding least greatest
 greatest-swapped [] lo hi = refl
-greatest-swapped (t ∷ ts) lo hi = ap (add_known (scaled_side t.coef (get_or hi t.var None) (get_or lo t.var None))) (greatest-swapped ts lo hi)
+greatest-swapped (t ∷ ts) lo hi =
+    ap (add_known (scaled_side t.coef (get_or hi t.var None) (get_or lo t.var None))) (greatest-swapped ts lo hi)
 
-pub add_known-add_known : (x y : ℤ) (o : Option ℤ) → add_known (Some (x +ℤ y)) o ≡ add_known (Some x) (add_known (Some y) o)
+pub add_known-add_known : (x y : ℤ) (o : Option ℤ)
+    → add_known (Some (x +ℤ y)) o ≡ add_known (Some x) (add_known (Some y) o)
 add_known-add_known x y None = refl
 add_known-add_known x y (Some z) = let same : (x +ℤ y) +ℤ z ≡ x +ℤ (y +ℤ z) = omega (arith, ints) in ap Some same
 
@@ -108,20 +159,35 @@ add_known-none None = refl
 add_known-none (Some x) = refl
 
 -- the least value of the rest, one term on
-pub least-rest : (form : List FormTerm) (b : PlainBounds) (i : ℕ) (d : FormTerm) → i < length form → least (drop i form) b ≡ add_known (scaled_side (get_or form i d).coef (lower_of b (get_or form i d).var) (upper_of b (get_or form i d).var)) (least (drop (i + 1) form) b)
+pub least-rest : (form : List FormTerm) (b : PlainBounds) (i : ℕ) (d : FormTerm) → i < length form
+    → least (drop i form) b ≡ add_known
+    (scaled_side (get_or form i d).coef (lower_of b (get_or form i d).var) (upper_of b (get_or form i d).var))
+    (least (drop (i + 1) form) b)
 unfolding least
 least-rest form b i d lt = ap (λ (xs : List FormTerm). least xs b) (drop_more form i d lt)
 
 -- a loop's step: one more value is known, or a side is missing
-pub least_step : (form : List FormTerm) (b : PlainBounds) (i : ℕ) (d : FormTerm) (sum value total : ℤ) (side whole : Option ℤ) → i < length form → side ≡ scaled_side (get_or form i d).coef (lower_of b (get_or form i d).var) (upper_of b (get_or form i d).var) → side ≡ Some value → total ≡ sum +ℤ value → add_known (Some sum) (least (drop i form) b) ≡ whole → add_known (Some total) (least (drop (i + 1) form) b) ≡ whole
+pub least_step : (form : List FormTerm) (b : PlainBounds) (i : ℕ) (d : FormTerm) (sum value total : ℤ)
+    (side whole : Option ℤ) → i < length form
+    → side ≡ scaled_side (get_or form i d).coef (lower_of b (get_or form i d).var) (upper_of b (get_or form i d).var)
+    → side ≡ Some value → total ≡ sum +ℤ value → add_known (Some sum) (least (drop i form) b) ≡ whole
+    → add_known (Some total) (least (drop (i + 1) form) b) ≡ whole
 least_step form b i d sum value total side whole lt is known added h =
-    ap (λ (x : ℤ). add_known (Some x) (least (drop (i + 1) form) b)) added ∙ add_known-add_known sum value (least (drop (i + 1) form) b) ∙ ap (λ (o : Option ℤ). add_known (Some sum) (add_known o (least (drop (i + 1) form) b))) (sym known ∙ is) ∙ ap (add_known (Some sum)) (sym (least-rest form b i d lt)) ∙ h
+    ap (λ (x : ℤ). add_known (Some x) (least (drop (i + 1) form) b)) added
+    ∙ add_known-add_known sum value (least (drop (i + 1) form) b)
+    ∙ ap (λ (o : Option ℤ). add_known (Some sum) (add_known o (least (drop (i + 1) form) b))) (sym known ∙ is)
+    ∙ ap (add_known (Some sum)) (sym (least-rest form b i d lt)) ∙ h
 
-pub least_missing : (form : List FormTerm) (b : PlainBounds) (i : ℕ) (d : FormTerm) (sum : ℤ) (side whole : Option ℤ) → i < length form → side ≡ scaled_side (get_or form i d).coef (lower_of b (get_or form i d).var) (upper_of b (get_or form i d).var) → side ≡ None → add_known (Some sum) (least (drop i form) b) ≡ whole → whole ≡ None
+pub least_missing : (form : List FormTerm) (b : PlainBounds) (i : ℕ) (d : FormTerm) (sum : ℤ) (side whole : Option ℤ)
+    → i < length form → side ≡ scaled_side (get_or form i d).coef (lower_of b (get_or form i d).var)
+    (upper_of b (get_or form i d).var) → side ≡ None → add_known (Some sum) (least (drop i form) b) ≡ whole
+    → whole ≡ None
 least_missing form b i d sum side whole lt is missing h =
-    sym h ∙ ap (add_known (Some sum)) (least-rest form b i d lt ∙ ap (λ (o : Option ℤ). add_known o (least (drop (i + 1) form) b)) (sym is ∙ missing))
+    sym h ∙ ap (add_known (Some sum)) (least-rest form b i d lt
+    ∙ ap (λ (o : Option ℤ). add_known o (least (drop (i + 1) form) b)) (sym is ∙ missing))
 
-pub least_end : (form : List FormTerm) (b : PlainBounds) (i : ℕ) (sum : ℤ) (whole : Option ℤ) → length form ≤ i → add_known (Some sum) (least (drop i form) b) ≡ whole → Some sum ≡ whole
+pub least_end : (form : List FormTerm) (b : PlainBounds) (i : ℕ) (sum : ℤ) (whole : Option ℤ) → length form ≤ i
+    → add_known (Some sum) (least (drop i form) b) ≡ whole → Some sum ≡ whole
 unfolding least
 least_end form b i sum whole le h =
     let same : sum ≡ sum +ℤ pos 0 = omega (arith, ints) in
@@ -138,7 +204,8 @@ get_or-same (suc n) (suc v) x = get_or-same n v x
 pub side_missing : (sides : List (Option ℤ)) (n v : ℕ) → sides ≡ replicate n None → get_or sides v None ≡ None
 side_missing sides n v is = ap (λ (xs : List (Option ℤ)). get_or xs v None) is ∙ get_or-same n v None
 
-pub AreBounds-missing : (lo hi : List (Option ℤ)) → lo ≡ replicate 64 None → hi ≡ replicate 64 None → AreBounds (record { lower = lo; upper = hi })
+pub AreBounds-missing : (lo hi : List (Option ℤ)) → lo ≡ replicate 64 None → hi ≡ replicate 64 None
+    → AreBounds (record { lower = lo; upper = hi })
 AreBounds-missing lo hi l h = record {
   lower_len = ap length l ∙ length-replicate {A = Option ℤ} 64 None;
   upper_len = ap length h ∙ length-replicate {A = Option ℤ} 64 None;

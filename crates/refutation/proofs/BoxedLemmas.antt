@@ -1,11 +1,13 @@
 -- The sides of a key's bounds are at most 2^32 in size.
-use Rattle.std.proofs.Common.{◌≡◌, ℕ, ◌^◌, ◌≤◌, ℤ, neg_ℤ, Bool, true, false, cond, Option, Some, None, IfSome, List, [], ◌∷◌, unsigned_abs, arith, refl, sym, subst, int_lt}
+use Rattle.std.proofs.Common.{◌≡◌, ℕ, ◌^◌, ◌≤◌, ℤ, neg_ℤ, Bool, true, false, cond, Option, Some, None, IfSome, List, []}
+use Rattle.std.proofs.Common.{◌∷◌, unsigned_abs, arith, refl, sym, subst, int_lt}
 use Rattle.std.specs.Int.{int_min, int_max}
 use Rattle.std.proofs.lemmas.Int.{ints, clamps}
 use Rattle.lin_model.specs.declared.op.Op.{Op}
 use Rattle.lin_model.specs.declared.op.Op.TheVariants.{Le, Ge, Eq, Ne}
 use Rattle.lin_model.specs.KeyAtom.{PlainKeyAtom}
-use Rattle.refutation.specs.Bounds.{PlainBounds, side_limit, lower_side, upper_side, lower_by, upper_by, is_variable, tighter_lower, tighter_upper, lower_bound, upper_bound, key_bounds}
+use Rattle.refutation.specs.Bounds.{PlainBounds, side_limit, lower_side, upper_side, lower_by, upper_by, is_variable}
+use Rattle.refutation.specs.Bounds.{tighter_lower, tighter_upper, lower_bound, upper_bound, key_bounds}
 use Rattle.refutation.specs.Boxed.{HasShortSides}
 use Rattle.refutation.proofs.Points.{over_variables, if_some}
 
@@ -48,18 +50,24 @@ tighter_upper-short (Some m) (Some n) f g = omega (arith, ints, clamps)
 lower_bound-short : (atoms : List PlainKeyAtom) (v : ℕ) → Short (lower_bound atoms v)
 lower_bound-short [] v = tt
 lower_bound-short (a ∷ atoms) v =
-    tighter_lower-short (cond (is_variable a.form v) (lower_by a.op a.constant) None) (lower_bound atoms v) (if_some (is_variable a.form v) (lower_by a.op a.constant) (λ n. unsigned_abs n ≤ 2 ^ 32) (λ _. lower_by-short a.op a.constant)) (lower_bound-short atoms v)
+    tighter_lower-short (cond (is_variable a.form v) (lower_by a.op a.constant) None) (lower_bound atoms v)
+    (if_some (is_variable a.form v) (lower_by a.op a.constant) (λ n. unsigned_abs n ≤ 2 ^ 32)
+    (λ _. lower_by-short a.op a.constant)) (lower_bound-short atoms v)
 
 upper_bound-short : (atoms : List PlainKeyAtom) (v : ℕ) → Short (upper_bound atoms v)
 upper_bound-short [] v = tt
 upper_bound-short (a ∷ atoms) v =
-    tighter_upper-short (cond (is_variable a.form v) (upper_by a.op a.constant) None) (upper_bound atoms v) (if_some (is_variable a.form v) (upper_by a.op a.constant) (λ n. unsigned_abs n ≤ 2 ^ 32) (λ _. upper_by-short a.op a.constant)) (upper_bound-short atoms v)
+    tighter_upper-short (cond (is_variable a.form v) (upper_by a.op a.constant) None) (upper_bound atoms v)
+    (if_some (is_variable a.form v) (upper_by a.op a.constant) (λ n. unsigned_abs n ≤ 2 ^ 32)
+    (λ _. upper_by-short a.op a.constant)) (upper_bound-short atoms v)
 
 pub key_bounds-short : (key : List PlainKeyAtom) → HasShortSides (key_bounds key)
 unfolding key_bounds
 key_bounds-short key = record {
-  lower = λ v. over_variables (lower_bound key) v (λ o. IfSome o (λ n. unsigned_abs n ≤ 2 ^ 32)) (lower_bound-short key v) tt;
-  upper = λ v. over_variables (upper_bound key) v (λ o. IfSome o (λ n. unsigned_abs n ≤ 2 ^ 32)) (upper_bound-short key v) tt;
+  lower = λ v. over_variables (lower_bound key) v (λ o. IfSome o (λ n. unsigned_abs n ≤ 2 ^ 32))
+      (lower_bound-short key v) tt;
+  upper = λ v. over_variables (upper_bound key) v (λ o. IfSome o (λ n. unsigned_abs n ≤ 2 ^ 32))
+      (upper_bound-short key v) tt;
 }
 
 pub bounds-short : (b : PlainBounds) (key : List PlainKeyAtom) → b ≡ key_bounds key → HasShortSides b

@@ -1,4 +1,5 @@
 mod UnitTerms
+mod GlanceLemmas
 mod Worked
 mod WorkedCuts
 mod WorkedGlance
@@ -14,6 +15,7 @@ mod SumLemmas
 mod LeafLemmas
 mod WalkLemmas
 mod ReadingLemmas
+mod OneAnswer
 mod BoxedLemmas
 mod BoundedLemmas
 mod SplitLemmas

@@ -42,7 +42,9 @@ unfolding cut upper_cut lower_cut least greatest key_bounds variables
 check_turned_down = refl
 
 -- below 0 a bound is rounded away from 0 where it goes down: `2*v0 + v1 <= -3` over v0 from -9 to 9
-check_below_zero : cut (key_bounds (atom (variable 0) Le (pos 9) ∷ atom (variable 0) Ge (negsuc 8) ∷ atom (variable 1) Le (pos 9) ∷ atom (variable 1) Ge (pos 0) ∷ [])) (atom (sum_of (pos 2) (pos 1)) Le (negsuc 2)) 0 ≡ at_most (negsuc 1)
+check_below_zero : cut
+    (key_bounds (atom (variable 0) Le (pos 9) ∷ atom (variable 0) Ge (negsuc 8) ∷ atom (variable 1) Le (pos 9) ∷ atom
+    (variable 1) Ge (pos 0) ∷ [])) (atom (sum_of (pos 2) (pos 1)) Le (negsuc 2)) 0 ≡ at_most (negsuc 1)
 unfolding cut upper_cut lower_cut least greatest key_bounds variables
 check_below_zero = refl
 
@@ -60,12 +62,16 @@ unfolding cut upper_cut lower_cut least greatest key_bounds variables
 check_behind_other_side = refl
 
 -- `v0 + v1 = 9` over v1 from 2 to 4 asks for v0 from 5 to 7, and the lower bound goes first
-check_both : cut (key_bounds (atom (variable 0) Le (pos 9) ∷ atom (variable 0) Ge (pos 0) ∷ atom (variable 1) Le (pos 4) ∷ atom (variable 1) Ge (pos 2) ∷ [])) (atom (sum_of (pos 1) (pos 1)) Eq (pos 9)) 0 ≡ at_least (pos 5)
+check_both : cut
+    (key_bounds (atom (variable 0) Le (pos 9) ∷ atom (variable 0) Ge (pos 0) ∷ atom (variable 1) Le (pos 4) ∷ atom
+    (variable 1) Ge (pos 2) ∷ [])) (atom (sum_of (pos 1) (pos 1)) Eq (pos 9)) 0 ≡ at_least (pos 5)
 unfolding cut upper_cut lower_cut least greatest key_bounds variables
 check_both = refl
 
 -- without the upper side of v1 `v0 + v1 <= 5` cuts nothing, though it would need the lower side alone
-check_side_missing : cut (key_bounds (atom (variable 0) Le (pos 9) ∷ atom (variable 0) Ge (pos 0) ∷ atom (variable 1) Ge (pos 0) ∷ [])) (atom (sum_of (pos 1) (pos 1)) Le (pos 5)) 0 ≡ None
+check_side_missing : cut
+    (key_bounds (atom (variable 0) Le (pos 9) ∷ atom (variable 0) Ge (pos 0) ∷ atom (variable 1) Ge (pos 0) ∷ []))
+    (atom (sum_of (pos 1) (pos 1)) Le (pos 5)) 0 ≡ None
 unfolding cut upper_cut lower_cut least greatest key_bounds variables
 check_side_missing = refl
 
@@ -80,27 +86,34 @@ check_not_named = refl
 
 -- ---- the node that a box asks for
 
--- `v0 - v1 <= -1` and `v0 - v1 >= 1` fail at (0, 0), and the first of them gives the node: it raises v1 to 1, which goes before its lowering of v0 to 8
-check_raising : step (over 9 9 (atom difference Le (negsuc 0) ∷ atom difference Ge (pos 1) ∷ [])) (root_box (over 9 9 (atom difference Le (negsuc 0) ∷ atom difference Ge (pos 1) ∷ []))) ≡ Some (Split 1 (pos 0))
+-- `v0 - v1 <= -1` and `v0 - v1 >= 1` fail at (0, 0), and the first of them gives the node: it raises v1 to 1, which
+-- goes before its lowering of v0 to 8
+check_raising : step (over 9 9 (atom difference Le (negsuc 0) ∷ atom difference Ge (pos 1) ∷ []))
+    (root_box (over 9 9 (atom difference Le (negsuc 0) ∷ atom difference Ge (pos 1) ∷ []))) ≡ Some (Split 1 (pos 0))
 unfolding step lowest_corner cut upper_cut lower_cut least greatest key_bounds variables
 check_raising = refl
 
 -- `v0 - v1 = 5` raises v0 to 5
-check_raising_equal : step (over 9 9 (atom difference Eq (pos 5) ∷ [])) (root_box (over 9 9 (atom difference Eq (pos 5) ∷ []))) ≡ Some (Split 0 (pos 4))
+check_raising_equal : step (over 9 9 (atom difference Eq (pos 5) ∷ []))
+    (root_box (over 9 9 (atom difference Eq (pos 5) ∷ []))) ≡ Some (Split 0 (pos 4))
 unfolding step lowest_corner cut upper_cut lower_cut least greatest key_bounds variables
 check_raising_equal = refl
 
 -- `v0 - v1 - v2 <= -5` over v0 from 0 to 20, v1 and v2 from 0 to 9: it raises neither v1 nor v2, and lowers v0 to 13
 abbrev lowering : List PlainKeyAtom
 lowering =
-    atom (variable 0) Le (pos 20) ∷ atom (variable 0) Ge (pos 0) ∷ atom (record { var = 0; coef = pos 1 } ∷ record { var = 1; coef = negsuc 0 } ∷ record { var = 2; coef = negsuc 0 } ∷ []) Le (negsuc 4) ∷ atom (variable 1) Le (pos 9) ∷ atom (variable 1) Ge (pos 0) ∷ atom (variable 2) Le (pos 9) ∷ atom (variable 2) Ge (pos 0) ∷ []
+    atom (variable 0) Le (pos 20) ∷ atom (variable 0) Ge (pos 0) ∷ atom
+    (record { var = 0; coef = pos 1 } ∷ record { var = 1; coef = negsuc 0 } ∷ record { var = 2; coef = negsuc 0 } ∷ [])
+    Le (negsuc 4) ∷ atom (variable 1) Le (pos 9) ∷ atom (variable 1) Ge (pos 0) ∷ atom (variable 2) Le (pos 9) ∷ atom
+    (variable 2) Ge (pos 0) ∷ []
 
 check_lowering : step lowering (root_box lowering) ≡ Some (Split 0 (pos 13))
 unfolding step lowest_corner cut upper_cut lower_cut least greatest key_bounds variables
 check_lowering = refl
 
 -- `v0 + 2*v1 >= 5` cuts neither, and v0 is the first of two that are equally wide
-check_halving : step (over 9 9 (atom (sum_of (pos 1) (pos 2)) Ge (pos 5) ∷ [])) (root_box (over 9 9 (atom (sum_of (pos 1) (pos 2)) Ge (pos 5) ∷ []))) ≡ Some (Split 0 (pos 4))
+check_halving : step (over 9 9 (atom (sum_of (pos 1) (pos 2)) Ge (pos 5) ∷ []))
+    (root_box (over 9 9 (atom (sum_of (pos 1) (pos 2)) Ge (pos 5) ∷ []))) ≡ Some (Split 0 (pos 4))
 unfolding step lowest_corner cut upper_cut lower_cut least greatest key_bounds variables
 check_halving = refl
 

@@ -1,5 +1,7 @@
 -- Bounds of 64 variables, the bounds that a key gives, and the least and greatest value of a form within them.
-use Rattle.std.specs.Prelude.{◌≡◌, ℕ, zero, suc, ◌+◌, ◌^◌, ◌≤◌, ℤ, pos, negsuc, neg_ℤ, ◌+ℤ◌, ◌*ℤ◌, ◌≤ℤ◌, Bool, false, if◌then◌else◌, ◌==◌, int_lt, Option, Some, None, IfSome, List, [], ◌∷◌, map, length, unsigned_abs, slice_index_or, slice_set}
+use Rattle.std.specs.Prelude.{◌≡◌, ℕ, zero, suc, ◌+◌, ◌^◌, ◌≤◌, ℤ, pos, negsuc, neg_ℤ, ◌+ℤ◌, ◌*ℤ◌, ◌≤ℤ◌, Bool, false}
+use Rattle.std.specs.Prelude.{if◌then◌else◌, ◌==◌, int_lt, Option, Some, None, IfSome, List, [], ◌∷◌, map, length}
+use Rattle.std.specs.Prelude.{unsigned_abs, slice_index_or, slice_set}
 use Rattle.std.specs.Int.{int_min, int_max}
 use Rattle.std.specs.List.{All, list_any, range_with_len}
 use Rattle.std.specs.Option.{option_map}

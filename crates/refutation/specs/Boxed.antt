@@ -1,4 +1,5 @@
--- Boxed keys: both sides of every variable are there, and no side of a key's bounds is beyond 2^32 in size. Cuts between two sides.
+-- Boxed keys: both sides of every variable are there, and no side of a key's bounds is beyond 2^32 in size. Cuts
+-- between two sides.
 use Rattle.std.specs.Prelude.{◌≡◌, ℕ, ◌^◌, ◌<◌, ◌≤◌, ℤ, ◌<ℤ◌, ◌≤ℤ◌, true, Some, IfSome, is_some, List, unsigned_abs}
 use Rattle.lin_model.specs.KeyAtom.{PlainKeyAtom}
 use Rattle.lin_model.specs.Key.{key_width}

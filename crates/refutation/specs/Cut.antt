@@ -1,5 +1,6 @@
 -- Cuts: the bound of one variable that an atom gives within bounds.
-use Rattle.std.specs.Prelude.{ℕ, zero, suc, ℤ, pos, negsuc, neg_ℤ, ◌-ℤ◌, Bool, true, false, not, ◌&&◌, if◌then◌else◌, ◌==◌, int_lt, int_le, Option, Some, None, is_some, List}
+use Rattle.std.specs.Prelude.{ℕ, zero, suc, ℤ, pos, negsuc, neg_ℤ, ◌-ℤ◌, Bool, true, false, not, ◌&&◌, if◌then◌else◌}
+use Rattle.std.specs.Prelude.{◌==◌, int_lt, int_le, Option, Some, None, is_some, List}
 use Rattle.std.specs.List.{list_all, filter}
 use Rattle.std.specs.Option.{option_map, option_and_then}
 use Rattle.lin_model.specs.declared.form.FormTerm.{FormTerm}

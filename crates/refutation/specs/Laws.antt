@@ -1,8 +1,11 @@
 -- What refutations and bounds keep.
-use Rattle.std.specs.Prelude.{◌≡◌, ℕ, ◌^◌, ◌<◌, ◌≤◌, ℤ, pos, negsuc, ◌+ℤ◌, false, List, [], ◌∷◌, length, unsigned_abs}
+use Rattle.std.specs.Prelude.{◌≡◌, ℕ, ◌^◌, ◌<◌, ◌≤◌, ℤ, Result, Ok, Err, pos, negsuc, ◌+ℤ◌, false, List, [], ◌∷◌}
+use Rattle.std.specs.Prelude.{length, unsigned_abs}
 use Rattle.lin_model.specs.KeyAtom.{PlainKeyAtom}
 use Rattle.lin_model.specs.Key.{IsKey, KeyHolds}
 use Rattle.lin_model.specs.Bounded.{IsBounded}
+use Rattle.refutation.specs.declared.fault.TreeFault.{TreeFault}
+use Rattle.refutation.specs.declared.fault.TreeFault.TheVariants.{NodeFails, TreeEnds, TreeGoesOn, NoMemory}
 use Rattle.refutation.specs.declared.leaf.LeafTerm.{LeafTerm}
 use Rattle.refutation.specs.declared.leaf.On.TheVariants.{Atom as OnAtom}
 use Rattle.refutation.specs.declared.node.Node.{Node}
@@ -10,20 +13,42 @@ use Rattle.refutation.specs.Bounds.{PlainBounds, with_lower, with_upper, is_empt
 use Rattle.refutation.specs.Box.{PlainBox, root_box}
 use Rattle.refutation.specs.Boxed.{IsBoxedIn, IsBoxed, HasShortSides, IsCut}
 use Rattle.refutation.specs.Leaf.{PlainLeaf, Closes, combo_closes, fixed_closes, ClosedByOneAtom}
-use Rattle.refutation.specs.Reading.{Refutes, HasNoPoint}
-use Rattle.refutation.specs.SearchTree.{Rule, IsOpenTree, room}
+use Rattle.refutation.specs.Reading.{Refutes, FailsAt, EndsEarly, GoesOn, HasNoPoint}
+use Rattle.refutation.specs.SearchTree.{Rule, IsOpenTreeBy, room}
+
+-- what each answer of the check says of the tree; want of memory is no answer
+abbrev pub IsTreeAnswer : List PlainKeyAtom → List Node → List LeafTerm → Result (Unit {0}) TreeFault → Type 0
+IsTreeAnswer key nodes terms (Ok u) = Refutes key nodes terms
+IsTreeAnswer key nodes terms (Err (NodeFails i)) = FailsAt key nodes terms i
+IsTreeAnswer key nodes terms (Err TreeEnds) = EndsEarly key nodes terms
+IsTreeAnswer key nodes terms (Err TreeGoesOn) = GoesOn key nodes terms
+IsTreeAnswer key nodes terms (Err NoMemory) = ⊥
+
+-- one answer is right, and no other
+pub record HasOneTreeAnswer (key : List PlainKeyAtom) (nodes : List Node) (terms : List LeafTerm) : Type 0 where
+  pub answer : Result (Unit {0}) TreeFault
+  pub is : IsTreeAnswer key nodes terms answer
+  pub alone : (other : Result (Unit {0}) TreeFault) → IsTreeAnswer key nodes terms other → other ≡ answer
+
+-- each tree has one answer
+abbrev pub EachTreeHasOneAnswer : Type 0
+EachTreeHasOneAnswer =
+    (key : List PlainKeyAtom) (nodes : List Node) (terms : List LeafTerm) → HasOneTreeAnswer key nodes terms
 
 -- no point satisfies a key that some tree refutes
 abbrev pub RefutedHasNoPoint : Type 0
-RefutedHasNoPoint = (key : List PlainKeyAtom) (nodes : List Node) (terms : List LeafTerm) → IsKey key → Refutes key nodes terms → HasNoPoint key
+RefutedHasNoPoint =
+    (key : List PlainKeyAtom) (nodes : List Node) (terms : List LeafTerm) → IsKey key → Refutes key nodes terms
+    → HasNoPoint key
 
 -- a key that bounds each of its variables on both sides has both sides of each
 abbrev pub BoundedIsBoxed : Type 0
 BoundedIsBoxed = (key : List PlainKeyAtom) → IsKey key → IsBounded key → IsBoxed key
 
--- an open tree of a boxed key has fewer splits than the key has room
-abbrev pub OpenTreesAreBelowRoom : Type 0
-OpenTreesAreBelowRoom = (rule : Rule) (key : List PlainKeyAtom) (splits : ℕ) (nodes : List Node) (terms : List LeafTerm) → IsKey key → IsBoxed key → IsOpenTree rule key splits nodes terms → splits < room key
+-- an open tree of a boxed key has fewer splits than the key has room, whichever rule it splits by
+pub record OpenTreesAreBelowRoom : Type 0 where
+  pub below : {rule : Rule} (key : List PlainKeyAtom) (splits : ℕ) (nodes : List Node) (terms : List LeafTerm)
+      → IsKey key → IsBoxed key → IsOpenTreeBy rule key splits nodes terms → splits < room key
 
 -- the halves of a cut are as the whole: not empty, boxed and short; and so is the cut short
 pub record AreProperHalves (b : PlainBounds) (v : ℕ) (cut : ℤ) : Type 0 where
@@ -45,14 +70,19 @@ KeyBoundsAreShort = (key : List PlainKeyAtom) → HasShortSides (key_bounds key)
 
 -- no leaf closes the root box of a key that a point satisfies
 abbrev pub RootsOfModelsStayOpen : Type 0
-RootsOfModelsStayOpen = (key : List PlainKeyAtom) (leaf : PlainLeaf) (point : List ℤ) → IsKey key → KeyHolds key point → ¬ Closes key (root_box key) leaf
+RootsOfModelsStayOpen =
+    (key : List PlainKeyAtom) (leaf : PlainLeaf) (point : List ℤ) → IsKey key → KeyHolds key point
+    → ¬ Closes key (root_box key) leaf
 
 -- no atom of the key closes the box, by the factor 1, by -1, or because its form has one value
 pub record NoAtomOfTheKeyCloses (key : List PlainKeyAtom) (box : PlainBox) : Type 0 where
   pub positive : (i : ℕ) → i < length key → combo_closes key box (record { on = OnAtom i; factor = pos 1 } ∷ []) ≡ false
-  pub negative : (i : ℕ) → i < length key → combo_closes key box (record { on = OnAtom i; factor = negsuc 0 } ∷ []) ≡ false
+  pub negative : (i : ℕ) → i < length key → combo_closes key box (record { on = OnAtom i; factor = negsuc 0 } ∷ [])
+      ≡ false
   pub no_fixed : (i : ℕ) → i < length key → fixed_closes key box.bounds i ≡ false
 
 -- so one atom doesn't close it at all, if it isn't empty and has no sides
 abbrev pub ClosedByAtomsOfTheKey : Type 0
-ClosedByAtomsOfTheKey = (key : List PlainKeyAtom) (box : PlainBox) → box.sides ≡ [] → is_empty box.bounds ≡ false → NoAtomOfTheKeyCloses key box → ¬ ClosedByOneAtom key box
+ClosedByAtomsOfTheKey =
+    (key : List PlainKeyAtom) (box : PlainBox) → box.sides ≡ [] → is_empty box.bounds ≡ false
+    → NoAtomOfTheKeyCloses key box → ¬ ClosedByOneAtom key box

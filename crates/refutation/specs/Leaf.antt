@@ -1,5 +1,7 @@
 -- What closes a box.
-use Rattle.std.specs.Prelude.{ℕ, ◌^◌, ℤ, pos, neg_ℤ, ◌+ℤ◌, ◌-ℤ◌, ◌*ℤ◌, Bool, true, false, not, ◌&&◌, ◌||◌, if◌then◌else◌, ◌==◌, int_lt, nat_le, Option, Some, None, IsTrue, List, [], ◌∷◌, map, length, unsigned_abs, slice_get}
+use Rattle.std.specs.Prelude.{ℕ, ◌^◌, ℤ, pos, neg_ℤ, ◌+ℤ◌, ◌-ℤ◌, ◌*ℤ◌, Bool, true, false, not, ◌&&◌, ◌||◌}
+use Rattle.std.specs.Prelude.{if◌then◌else◌, ◌==◌, int_lt, nat_le, Option, Some, None, IsTrue, List, [], ◌∷◌, map}
+use Rattle.std.specs.Prelude.{length, unsigned_abs, slice_get}
 use Rattle.std.specs.Option.{option_map, option_and_then, option_map_or}
 use Rattle.std.specs.Ordering.{int_eq}
 use Rattle.lin_model.specs.declared.form.FormTerm.{FormTerm}
@@ -42,7 +44,8 @@ is_factor f = nat_le (unsigned_abs f) (2 ^ 31) && not (int_eq f (pos 0))
 abbrev pub is_positive_factor : ℤ → Bool
 is_positive_factor f = is_factor f && int_lt (pos 0) f
 
--- the multiple of `form - c` that a factor of an atom stands for, where the factor is lawful: on `>=` it is that of `c - form`
+-- the multiple of `form - c` that a factor of an atom stands for, where the factor is lawful: on `>=` it is that of `c
+-- - form`
 abbrev pub weight : Op → ℤ → Option ℤ
 weight Le f = if is_positive_factor f then Some f else None
 weight Ge f = if is_positive_factor f then Some (neg_ℤ f) else None
@@ -92,7 +95,8 @@ is_positive_sum b ms = option_map_or (λ n. int_lt (pos 0) (n -ℤ summed_consta
 -- one to eight lawful terms whose sum is positive all over the box, though each is at most 0 where the key holds
 unfoldable pub combo_closes : List PlainKeyAtom → PlainBox → List LeafTerm → Bool
 combo_closes key box terms =
-    nat_le 1 (length terms) && (nat_le (length terms) 8 && option_map_or (is_positive_sum box.bounds) (multiples_of key box.sides terms) false)
+    nat_le 1 (length terms) && (nat_le (length terms) 8
+    && option_map_or (is_positive_sum box.bounds) (multiples_of key box.sides terms) false)
 
 -- both values are known and the same, and this value fails the atom's test
 abbrev pub fails_fixed : PlainKeyAtom → Option ℤ → Option ℤ → Bool

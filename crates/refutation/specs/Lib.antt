@@ -2,6 +2,7 @@ pub mod Bounds
 pub mod Box
 pub mod Boxed
 pub mod Leaf
+pub mod Glance
 pub mod Sum
 pub mod Reading
 pub mod Tree
@@ -12,3 +13,4 @@ pub mod Halving
 pub mod SearchTree
 pub mod Laws
 pub mod Facts
+pub mod ReadingFacts

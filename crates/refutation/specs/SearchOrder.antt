@@ -1,5 +1,6 @@
 -- The order of the search: the node that a box asks for.
-use Rattle.std.specs.Prelude.{ℕ, suc, ℤ, pos, ◌+ℤ◌, ◌-ℤ◌, Bool, if◌then◌else◌, ◌==◌, int_lt, Option, Some, None, List, [], ◌∷◌, map}
+use Rattle.std.specs.Prelude.{ℕ, suc, ℤ, pos, ◌+ℤ◌, ◌-ℤ◌, Bool, if◌then◌else◌, ◌==◌, int_lt, Option, Some, None, List}
+use Rattle.std.specs.Prelude.{[], ◌∷◌, map}
 use Rattle.std.specs.List.{list_any, range_with_len}
 use Rattle.std.specs.Option.{unwrap_or, option_map, option_map_or}
 use Rattle.lin_model.specs.declared.form.FormTerm.{FormTerm}
@@ -35,7 +36,8 @@ pub record Numbered : Type 0 where
 abbrev pub first_failing : ℕ → List PlainKeyAtom → List ℤ → Option Numbered
 first_failing i [] point = None
 first_failing i (a ∷ atoms) point =
-    if passes a.op a.constant (form_value a.form point) then first_failing (suc i) atoms point else Some (record { number = i; atom = a })
+    if passes a.op a.constant (form_value a.form point) then first_failing (suc i) atoms point else Some
+    (record { number = i; atom = a })
 
 -- a split above the box is by this atom
 abbrev pub was_split : PlainBox → ℕ → Bool
@@ -88,12 +90,14 @@ split_in_half b form = Split (widest b form) (middle b (widest b form))
 
 -- the first cut that raises a lower side, else the first that lowers an upper side, else the split in half
 abbrev pub split_by : PlainBounds → PlainKeyAtom → Node
-split_by b a = option_map_or (λ n. n) (first_raising b a) (option_map_or (λ n. n) (first_lowering b a) (split_in_half b a.form))
+split_by b a =
+    option_map_or (λ n. n) (first_raising b a) (option_map_or (λ n. n) (first_lowering b a) (split_in_half b a.form))
 
 -- the node for a box whose lowest corner fails this atom first
 abbrev pub node_for : PlainBox → Numbered → Node
 node_for box f =
-    if is_ne f.atom then (if was_split box f.number then split_in_half box.bounds f.atom.form else NeSplit f.number) else split_by box.bounds f.atom
+    if is_ne f.atom then (if was_split box f.number then split_in_half box.bounds f.atom.form else NeSplit f.number)
+    else split_by box.bounds f.atom
 
 -- the node that the box asks for, None where its lowest corner satisfies the key
 unfoldable pub step : List PlainKeyAtom → PlainBox → Option Node

@@ -1,5 +1,6 @@
 -- The code's form of a sum of multiples: one coefficient for each variable.
-use Rattle.std.specs.Prelude.{◌≡◌, ℕ, ◌+◌, ◌*◌, ◌^◌, ◌<◌, ◌≤◌, ℤ, pos, ◌+ℤ◌, ◌-ℤ◌, ◌*ℤ◌, Bool, true, false, int_lt, Option, Some, None, List, map, length, unsigned_abs, slice_index_or}
+use Rattle.std.specs.Prelude.{◌≡◌, ℕ, ◌+◌, ◌*◌, ◌^◌, ◌<◌, ◌≤◌, ℤ, pos, ◌+ℤ◌, ◌-ℤ◌, ◌*ℤ◌, Bool, true, false, int_lt}
+use Rattle.std.specs.Prelude.{Option, Some, None, List, map, length, unsigned_abs, slice_index_or}
 use Rattle.std.specs.Option.{option_map_or}
 use Rattle.lin_model.specs.declared.form.FormTerm.{FormTerm}
 use Rattle.refutation.specs.Bounds.{PlainBounds, variables, least}

@@ -1,17 +1,20 @@
 //! Bounds: how far down and how far up each of 64 variables may go.
 
-ghost use Rattle.std.specs.Prelude.{◌≡◌, ◌==◌, if◌then◌else◌, None, replicate, slice_set, ◌+◌, ◌^◌, ◌<◌, ◌≤◌, ℕ, unsigned_abs};
+ghost use Rattle.std.specs.Prelude.{◌≡◌, ◌==◌, if◌then◌else◌, None, replicate, slice_set, ◌+◌, ◌^◌, ◌<◌, ◌≤◌, ℕ};
+ghost use Rattle.std.specs.Prelude.{unsigned_abs};
 ghost use Rattle.lin_model.specs.KeyAtom.{AscendsBelow64};
 ghost use Rattle.lin_model.specs.Key.{IsKey};
 ghost use Rattle.refutation.specs.Boxed.{HasShortSides};
-ghost use Rattle.refutation.specs.Bounds.{AreBounds, IsSide, lower_of, upper_of, lower_from, upper_from, tighter_lower, tighter_upper, with_lower, with_upper, key_bounds, is_empty, least, greatest};
+ghost use Rattle.refutation.specs.Bounds.{AreBounds, IsSide, lower_of, upper_of, lower_from, upper_from, tighter_lower};
+ghost use Rattle.refutation.specs.Bounds.{tighter_upper, with_lower, with_upper, key_bounds, is_empty, least, greatest};
 
 use crate::one_side::{crosses, lower_by, tighter_lower, tighter_upper, upper_by, variable_alone};
 use crate::value::least_within;
 use lin_model::{Form, Key, KeyAtom};
 use std::marker::Model;
 
-/// The sides of the variables 0 to 63: the least value that a variable may take, and the greatest. Either may be missing, which is None; one that is there is no larger than 2^32 + 1 in size.
+/// The sides of the variables 0 to 63: the least value that a variable may take, and the greatest. Either may be
+/// missing, which is None; one that is there is no larger than 2^32 + 1 in size.
 #[derive(Debug, Drop)]
 pub struct Bounds {
     lo: [Option<i64>; 64],
@@ -29,7 +32,8 @@ impl Model for Bounds {
 }
 
 impl Bounds {
-    /// The bounds that the one-variable atoms of a key give, the tightest of each kind, and never tighter than their atoms: a constant beyond 2^32 is brought to 2^32, or gives no side where it bounds nothing within.
+    /// The bounds that the one-variable atoms of a key give, the tightest of each kind, and never tighter than their
+    /// atoms: a constant beyond 2^32 is brought to 2^32, or gives no side where it bounds nothing within.
     pub fn of(key: &Key) -> Bounds
         ensures bounds { result ≡ key_bounds key.now }
         ensures sides { HasShortSides result }
@@ -101,7 +105,8 @@ impl Bounds {
         any_crosses(&self.lo, &self.hi)
     }
 
-    /// The least value that a form takes within the bounds, or None exactly where that hangs on a side that isn't there.
+    /// The least value that a form takes within the bounds, or None exactly where that hangs on a side that isn't
+    /// there.
     pub fn least(&self, form: &Form) -> Option<i128>
         requires { AscendsBelow64 form.now }
         ensures { result ≡ least form.now self.now }
@@ -109,7 +114,8 @@ impl Bounds {
         least_within(form.terms(), &self.lo, &self.hi)
     }
 
-    /// The greatest value that a form takes within the bounds, or None exactly where that hangs on a side that isn't there.
+    /// The greatest value that a form takes within the bounds, or None exactly where that hangs on a side that isn't
+    /// there.
     pub fn greatest(&self, form: &Form) -> Option<i128>
         requires { AscendsBelow64 form.now }
         ensures { result ≡ greatest form.now self.now }

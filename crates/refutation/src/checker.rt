@@ -1,10 +1,11 @@
 //! The check that a tree refutes a key.
 
-ghost use Rattle.std.specs.Prelude.{◌≡◌, ◌<◌, ◌∷◌, ◌&&◌, [], ℕ, List, Err, OnOk, length, take, nat_le, true, false, IfOk};
-ghost use Rattle.refutation.specs.Box.{PlainBox, left_half, right_half, on_side};
+ghost use Rattle.std.specs.Prelude.{◌≡◌, ◌<◌, ◌∷◌, ◌&&◌, [], ℕ, Err, OnOk, length, take, nat_le, true, false, IfOk};
+ghost use Rattle.refutation.specs.Box.{left_half, right_half, on_side};
 ghost use Rattle.refutation.specs.Leaf.{combo_closes};
-ghost use Rattle.refutation.specs.Reading.{is_split, names_ne, treated, Refutes, FailsAt, EndsEarly, GoesOn, HasNoPoint};
-ghost use Rattle.refutation.specs.Walk.{Puts, Treats};
+ghost use Rattle.refutation.specs.Reading.{is_split, names_ne, treated, Refutes, FailsAt, EndsEarly, GoesOn};
+ghost use Rattle.refutation.specs.Reading.{HasNoPoint};
+ghost use Rattle.refutation.specs.Walk.{OnFirst, Puts, Treats};
 
 use crate::closing::atom_at;
 use crate::fault::TreeFault;
@@ -15,9 +16,13 @@ use lin_model::{Key, Op};
 use outside::NoMemory;
 use std::alloc::Global;
 
-/// Checks that a tree refutes a key. The nodes come in preorder and are read over the list of undecided boxes, which begins as the key's bounds alone; each combination takes the terms that come next. Whoever made the tree is not trusted.
+/// Checks that a tree refutes a key. The nodes come in preorder and are read over the list of undecided boxes, which
+/// begins as the key's bounds alone; each combination takes the terms that come next. Whoever made the tree is not
+/// trusted.
 ///
-/// Ok comes only where each node may stand where it does, and the last of them closes the last box with no term to spare; then no integer point satisfies the key. `NodeFails`, `TreeEnds` and `TreeGoesOn` come exactly as their texts say, unless memory runs out first.
+/// Ok comes only where each node may stand where it does, and the last of them closes the last box with no term to
+/// spare; then no integer point satisfies the key. `NodeFails`, `TreeEnds` and `TreeGoesOn` come exactly as their texts
+/// say, unless memory runs out first.
 pub fn refutes(
     alloc: Global,
     key: &Key,
@@ -51,7 +56,8 @@ pub fn refutes(
     Ok(())
 }
 
-/// Lets a node treat the first undecided box, and answers how many terms it took. None says that the node may not stand there: it is unlawful, or a leaf that this box is not closed by.
+/// Lets a node treat the first undecided box, and answers how many terms it took. None says that the node may not stand
+/// there: it is unlawful, or a leaf that this box is not closed by.
 fn treat(
     walk: &mut Walk,
     key: &Key,
@@ -59,8 +65,8 @@ fn treat(
     terms: &[LeafTerm],
 ) -> Result<Option<usize>, NoMemory>
     requires { 0 < length walk.old }
-    ensures { IfOk result (λ taken. (box : PlainBox) (rest : List PlainBox) → walk.old ≡ box ∷ rest
-        → Treats (treated key.now box node terms.now) terms.now taken rest walk.new) }
+    ensures { IfOk result (λ taken. OnFirst walk.old (λ box rest.
+        Treats (treated false key.now box node terms.now) terms.now taken rest walk.new)) }
 {
     match node {
         Node::Split { var, cut } => split(walk, var, cut),
@@ -80,8 +86,8 @@ fn treat(
 
 /// Splits the first box at this cut, or answers None where no split may have it.
 fn split(walk: &mut Walk, var: u8, cut: i64) -> Result<Option<usize>, NoMemory>
-    ensures { IfOk result (λ taken. (box : PlainBox) (rest : List PlainBox) → walk.old ≡ box ∷ rest
-        → Puts (is_split var cut) (left_half box var cut ∷ right_half box var cut ∷ []) 0 taken rest walk.new) }
+    ensures { IfOk result (λ taken. OnFirst walk.old (λ box rest.
+        Puts (is_split var cut) (left_half box var cut ∷ right_half box var cut ∷ []) 0 taken rest walk.new)) }
 {
     if !is_split(var, cut) {
         return Ok(None);
@@ -99,8 +105,8 @@ fn is_split(var: u8, cut: i64) -> bool
 
 /// Splits the first box by the atom of this number, or answers None where the key has no such atom `form != c`.
 fn split_ne(walk: &mut Walk, key: &Key, atom: u16) -> Result<Option<usize>, NoMemory>
-    ensures { IfOk result (λ taken. (box : PlainBox) (rest : List PlainBox) → walk.old ≡ box ∷ rest
-        → Puts (names_ne key.now atom) (on_side box atom false ∷ on_side box atom true ∷ []) 0 taken rest walk.new) }
+    ensures { IfOk result (λ taken. OnFirst walk.old (λ box rest.
+        Puts (names_ne key.now atom) (on_side box atom false ∷ on_side box atom true ∷ []) 0 taken rest walk.new)) }
 {
     if !names_ne(key, atom) {
         return Ok(None);
@@ -127,8 +133,9 @@ fn close_by_combo(
     terms: &[LeafTerm],
 ) -> Result<Option<usize>, NoMemory>
     requires { 0 < length walk.old }
-    ensures { IfOk result (λ taken. (box : PlainBox) (rest : List PlainBox) → walk.old ≡ box ∷ rest
-        → Puts (nat_le count (length terms.now) && combo_closes key.now box (take count terms.now)) [] count taken rest walk.new) }
+    ensures { IfOk result (λ taken. OnFirst walk.old (λ box rest.
+        Puts (nat_le count (length terms.now) && combo_closes key.now box (take count terms.now)) [] count taken rest
+        walk.new)) }
 {
     if count > terms.len() {
         return Ok(None);
@@ -140,8 +147,8 @@ fn close_by_combo(
 /// Takes the first box off where it is closed, by a leaf that takes `count` terms; else answers None.
 fn close_if(walk: &mut Walk, closed: bool, count: usize) -> Result<Option<usize>, NoMemory>
     requires { 0 < length walk.old }
-    ensures { IfOk result (λ taken. (box : PlainBox) (rest : List PlainBox) → walk.old ≡ box ∷ rest
-        → Puts closed [] count taken rest walk.new) }
+    ensures { IfOk result (λ taken. OnFirst walk.old (λ box rest.
+        Puts closed [] count taken rest walk.new)) }
 {
     if !closed {
         return Ok(None);

@@ -1,11 +1,12 @@
 //! What closes a box: an empty box, a sum that is positive all over it, or a form with one value that fails its test.
 
 ghost use Rattle.std.specs.Prelude.{◌≡◌, ◌+◌, ◌^◌, ◌<◌, ◌≤◌, unsigned_abs, slice_get, IfSome};
-ghost use Rattle.std.specs.Option.{option_copied};
+ghost use Rattle.std.specs.Option.{option_copied, option_and_then};
 ghost use Rattle.lin_model.specs.KeyAtom.{IsCanonical, IsCanonicalForm};
 ghost use Rattle.lin_model.specs.Test.{passes};
-ghost use Rattle.refutation.specs.Box.{beside};
-ghost use Rattle.refutation.specs.Leaf.{closes, leaf_of, combo_closes, fixed_closes, fails_fixed, multiple_of, weighted, weight};
+ghost use Rattle.refutation.specs.Box.{beside, side_atom};
+ghost use Rattle.refutation.specs.Leaf.{closes, leaf_of, combo_closes, fixed_closes, fails_fixed, multiple_of};
+ghost use Rattle.refutation.specs.Leaf.{weighted, weight};
 ghost use Rattle.refutation.specs.Sum.{AddsIfSome};
 
 use crate::bounds::Bounds;
@@ -81,16 +82,41 @@ fn add_term(sum: &mut Sum, key: &Key, sides: &[Side], term: LeafTerm) -> bool
     ensures { AddsIfSome (multiple_of key.now sides.now term) sum.old sum.new result }
 {
     match term.on {
-        On::Atom(number) => match atom_at(key, number) {
+        On::Atom(number) => add_numbered_atom(sum, key, usize::from(number), term.factor),
+        On::Side(number) => add_numbered_side(sum, key, sides, usize::from(number), term.factor),
+    }
+}
+
+/// Adds the multiple of the atom of this number; false where there is none or its factor isn't lawful.
+pub fn add_numbered_atom(sum: &mut Sum, key: &Key, number: usize, factor: i64) -> bool
+    requires { sum.old.count < 8 }
+    ensures { AddsIfSome (option_and_then (λ a. weighted a factor) (slice_get key.now number)) sum.old sum.new result }
+{
+    match key.atoms().get(number) {
+        None => false,
+        Some(atom) => add_atom(sum, atom, factor),
+    }
+}
+
+/// Adds the multiple of the side of this number; false where there is none, it names no atom or its factor isn't
+/// lawful.
+pub fn add_numbered_side(
+    sum: &mut Sum,
+    key: &Key,
+    sides: &[Side],
+    number: usize,
+    factor: i64,
+) -> bool
+    requires { sum.old.count < 8 }
+    ensures { AddsIfSome
+        (option_and_then (λ a. weighted a factor) (option_and_then (side_atom key.now) (slice_get sides.now number)))
+        sum.old sum.new result }
+{
+    match sides.get(number) {
+        None => false,
+        Some(side) => match atom_at(key, side.atom) {
             None => false,
-            Some(atom) => add_atom(sum, atom, term.factor),
-        },
-        On::Side(number) => match sides.get(usize::from(number)) {
-            None => false,
-            Some(side) => match atom_at(key, side.atom) {
-                None => false,
-                Some(atom) => add_side(sum, atom, side.upper, term.factor),
-            },
+            Some(atom) => add_side(sum, atom, side.upper, factor),
         },
     }
 }
@@ -121,7 +147,8 @@ fn add_weighted(sum: &mut Sum, form: &[FormTerm], op: Op, constant: i64, factor:
     requires form { IsCanonicalForm form.now }
     requires constant { unsigned_abs constant ≤ 2 ^ 50 }
     requires few { sum.old.count < 8 }
-    ensures { AddsIfSome (weighted (record { form = form.now; op = op; constant = constant }) factor) sum.old sum.new result }
+    ensures { AddsIfSome (weighted (record { form = form.now; op = op; constant = constant }) factor)
+        sum.old sum.new result }
 {
     match weight(op, factor) {
         None => false,
@@ -132,7 +159,8 @@ fn add_weighted(sum: &mut Sum, form: &[FormTerm], op: Op, constant: i64, factor:
     }
 }
 
-/// The multiple of `form - constant` that a factor stands for: its negative on `>=`, where `constant - form` is meant. None where the factor isn't lawful.
+/// The multiple of `form - constant` that a factor stands for: its negative on `>=`, where `constant - form` is meant.
+/// None where the factor isn't lawful.
 fn weight(op: Op, factor: i64) -> Option<i64>
     ensures value { result ≡ weight op factor }
     ensures size { IfSome result (λ w. unsigned_abs w ≤ 2 ^ 31) }

@@ -9,7 +9,8 @@ use std::fmt;
 /// Why the check of a tree said no.
 #[derive(Clone, Copy, Debug, PartialEq, Eq)]
 pub enum TreeFault {
-    /// The number, from 0, of the first node that may not stand where it does: a box is undecided there, and the node is unlawful or a leaf that leaves this box open.
+    /// The number, from 0, of the first node that may not stand where it does: a box is undecided there, and the node
+    /// is unlawful or a leaf that leaves this box open.
     NodeFails(u64),
     /// The nodes are used up, and some box is still undecided.
     TreeEnds,

@@ -1,5 +1,14 @@
 //! Laws of refutations and bounds, each the contract of a function that does nothing.
-ghost use Rattle.refutation.specs.Laws.{RefutedHasNoPoint, BoundedIsBoxed, OpenTreesAreBelowRoom, CutsLeaveProperHalves, KeyBoundsAreShort, RootsOfModelsStayOpen, ClosedByAtomsOfTheKey};
+ghost use Rattle.refutation.specs.Laws.{EachTreeHasOneAnswer, RefutedHasNoPoint, BoundedIsBoxed, OpenTreesAreBelowRoom};
+ghost use Rattle.refutation.specs.Laws.{CutsLeaveProperHalves, KeyBoundsAreShort, RootsOfModelsStayOpen};
+ghost use Rattle.refutation.specs.Laws.{ClosedByAtomsOfTheKey};
+
+/// Each tree refutes the key, fails at one node, ends early or goes on, and just one of these: so each has one answer
+/// of
+/// `refutes` that is right.
+pub fn each_tree_has_one_answer()
+    ensures { EachTreeHasOneAnswer }
+{}
 
 /// No point satisfies a key that some tree refutes.
 pub fn refuted_keys_have_no_point()
@@ -16,7 +25,8 @@ pub fn open_trees_are_below_room()
     ensures { OpenTreesAreBelowRoom }
 {}
 
-/// Where a cut lies between the sides of a variable, the halves aren't empty, have all sides and have none beyond 2^32 in
+/// Where a cut lies between the sides of a variable, the halves aren't empty, have all sides and have none beyond 2^32
+/// in
 /// size, wherever the whole is so; then the cut isn't beyond 2^32 either.
 pub fn cuts_leave_proper_halves()
     ensures { CutsLeaveProperHalves }

@@ -29,7 +29,8 @@ impl Default for On {
 pub struct LeafTerm {
     /// What is multiplied.
     pub on: On,
-    /// By how much. A lawful factor is no larger than 2^31 in size and above 0; on an atom with `=` it may be below 0 too.
+    /// By how much. A lawful factor is no larger than 2^31 in size and above 0; on an atom with `=` it may be below 0
+    /// too.
     pub factor: i64,
 }
 

@@ -5,6 +5,7 @@ mod bounds;
 mod checker;
 mod closing;
 mod fault;
+mod glance;
 mod laws;
 mod leaf;
 mod node;
@@ -20,10 +21,11 @@ pub use bounds::Bounds;
 pub use checker::refutes;
 pub use closing::closes;
 pub use fault::TreeFault;
+pub use glance::{closed_by_one_atom, closed_by_sum_of_two};
 pub use laws::{
     bounded_keys_are_boxed, closed_by_atoms_of_the_key, cuts_leave_proper_halves,
-    key_bounds_are_short, open_trees_are_below_room, refuted_keys_have_no_point,
-    roots_of_models_stay_open,
+    each_tree_has_one_answer, key_bounds_are_short, open_trees_are_below_room,
+    refuted_keys_have_no_point, roots_of_models_stay_open,
 };
 pub use leaf::{Leaf, LeafTerm, On};
 pub use node::Node;

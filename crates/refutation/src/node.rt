@@ -5,7 +5,8 @@
 pub enum Node {
     /// Splits the box: first the half with the variable at most `cut`, then the half with it at least `cut + 1`.
     Split { var: u8, cut: i64 },
-    /// Splits the box by the atom `form != c` of this number: first the half with `form <= c - 1`, then the half with `form >= c + 1`.
+    /// Splits the box by the atom `form != c` of this number: first the half with `form <= c - 1`, then the half with
+    /// `form >= c + 1`.
     NeSplit { atom: u16 },
     /// Closes the box by a combination of the `count` terms that come next.
     Combo { count: u8 },

@@ -2,7 +2,8 @@
 
 ghost use Rattle.std.specs.Prelude.{◌≡◌, ◌==◌, false, MatchOption, Some, ◌^◌, ◌<◌, ◌≤◌, ℕ, IfSome, unsigned_abs};
 ghost use Rattle.lin_model.specs.KeyAtom.{AscendsBelow64};
-ghost use Rattle.refutation.specs.Bounds.{is_variable, lower_by, upper_by, lower_side, upper_side, crosses, tighter_lower, tighter_upper};
+ghost use Rattle.refutation.specs.Bounds.{is_variable, lower_by, upper_by, lower_side, upper_side, crosses};
+ghost use Rattle.refutation.specs.Bounds.{tighter_lower, tighter_upper};
 
 use lin_model::{Form, Op};
 

@@ -1,6 +1,7 @@
 //! Sums of multiples of `form - constant`, as one coefficient for each variable.
 
-ghost use Rattle.std.specs.Prelude.{◌≡◌, ◌+◌, ◌*◌, ◌^◌, ◌<◌, ◌≤◌, ℕ, pos, ◌+ℤ◌, ◌*ℤ◌, length, unsigned_abs, slice_index_or, replicate, IfSome};
+ghost use Rattle.std.specs.Prelude.{◌≡◌, ◌+◌, ◌*◌, ◌^◌, ◌<◌, ◌≤◌, ℕ, pos, ◌+ℤ◌, ◌*ℤ◌, length, unsigned_abs};
+ghost use Rattle.std.specs.Prelude.{slice_index_or, replicate, IfSome};
 ghost use Rattle.std.specs.List.{All};
 ghost use Rattle.lin_model.specs.KeyAtom.{IsCanonicalForm};
 ghost use Rattle.refutation.specs.Bounds.{lower_of, upper_of, scaled_side, least};

@@ -6,7 +6,8 @@ use crate::leaf::LeafTerm;
 use crate::node::Node;
 use std::marker::Model;
 
-/// The nodes of a tree in preorder, and the terms of all its combinations in the same order: a combination takes the next `count` of them. What it refutes is for `refutes` to say.
+/// The nodes of a tree in preorder, and the terms of all its combinations in the same order: a combination takes the
+/// next `count` of them. What it refutes is for `refutes` to say.
 #[derive(Debug, Drop)]
 pub struct Tree {
     nodes: Vec<Node>,

@@ -1,6 +1,7 @@
 //! The least value of a sum of terms within bounds, in 128 bits.
 
-ghost use Rattle.std.specs.Prelude.{◌≡◌, ◌+◌, ◌*◌, ◌^◌, ◌<◌, ◌≤◌, ◌*ℤ◌, length, unsigned_abs, None, IfSome, slice_index_or};
+ghost use Rattle.std.specs.Prelude.{◌≡◌, ◌+◌, ◌*◌, ◌^◌, ◌<◌, ◌≤◌, ◌*ℤ◌, length, unsigned_abs, None, IfSome};
+ghost use Rattle.std.specs.Prelude.{slice_index_or};
 ghost use Rattle.std.specs.List.{All};
 ghost use Rattle.refutation.specs.Bounds.{IsSide, least, scaled_side};
 
@@ -41,7 +42,8 @@ fn least_of_term(term: FormTerm, lo: &[Option<i64>; 64], hi: &[Option<i64>; 64])
     scaled_side(i128::from(term.coef), lo[var], hi[var])
 }
 
-/// A coefficient times the side that it needs: the first where it is positive, the second where it is negative. The coefficient 0 needs none.
+/// A coefficient times the side that it needs: the first where it is positive, the second where it is negative. The
+/// coefficient 0 needs none.
 pub fn scaled_side(coef: i128, at_positive: Option<i64>, at_negative: Option<i64>) -> Option<i128>
     requires coef { unsigned_abs coef ≤ 2 ^ 80 }
     requires positive { IsSide at_positive }

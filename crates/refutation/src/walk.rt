@@ -1,13 +1,14 @@
 //! The walk over a tree: the undecided boxes, of which one is kept whole and the others as turns on the way to it.
 
-ghost use Rattle.std.specs.Prelude.{◌≡◌, ◌^◌, ◌<◌, ◌≤◌, ◌↔◌, [], ◌∷◌, List, true, false, unsigned_abs, length, reverse, drop, IsTrue, IfOk, OnOk};
+ghost use Rattle.std.specs.Prelude.{◌≡◌, ◌^◌, ◌<◌, ◌≤◌, ◌↔◌, [], ◌∷◌, true, false, unsigned_abs, length, reverse, drop};
+ghost use Rattle.std.specs.Prelude.{IsTrue, IfOk, OnOk};
 ghost use Rattle.std.specs.List.{All};
 ghost use Rattle.lin_model.specs.Key.{IsKey};
-ghost use Rattle.refutation.specs.Box.{PlainBox, root_box, left_half, right_half, on_side};
+ghost use Rattle.refutation.specs.Box.{root_box, left_half, right_half, on_side};
 ghost use Rattle.refutation.specs.Leaf.{combo_closes, fixed_closes};
 ghost use Rattle.refutation.specs.Bounds.{is_empty, key_bounds};
 ghost use Rattle.refutation.specs.Boxed.{HasShortSides};
-ghost use Rattle.refutation.specs.Walk.{IsTurn, waiting, undecided};
+ghost use Rattle.refutation.specs.Walk.{IsTurn, OnFirst, waiting, undecided};
 
 use crate::bounds::Bounds;
 use crate::closing;
@@ -65,7 +66,7 @@ impl Walk {
 
     /// The bounds of the first box.
     pub fn bounds(&self) -> &Bounds
-        ensures bounds { (box : PlainBox) (rest : List PlainBox) → self.now ≡ box ∷ rest → result.now ≡ box.bounds }
+        ensures bounds { OnFirst self.now (λ box rest. result.now ≡ box.bounds) }
     {
         &self.bounds
     }
@@ -75,8 +76,8 @@ impl Walk {
     pub fn split(&mut self, var: u8, cut: i64) -> Result<(), NoMemory>
         requires var { var < 64 }
         requires cut { unsigned_abs cut ≤ 2 ^ 32 }
-        ensures { (box : PlainBox) (rest : List PlainBox) → self.old ≡ box ∷ rest
-            → OnOk result (self.new ≡ left_half box var cut ∷ right_half box var cut ∷ rest) }
+        ensures { OnFirst self.old (λ box rest.
+            OnOk result (self.new ≡ left_half box var cut ∷ right_half box var cut ∷ rest)) }
     {
         let upper = self.bounds.upper(var);
         self.path.push(Turn::SplitLeft { var, cut, upper })?;
@@ -87,8 +88,8 @@ impl Walk {
     /// Splits the first box by an atom `form != c`.
     /// After want of memory the walk says nothing of the boxes, and is to be dropped.
     pub fn split_ne(&mut self, atom: u16) -> Result<(), NoMemory>
-        ensures { (box : PlainBox) (rest : List PlainBox) → self.old ≡ box ∷ rest
-            → OnOk result (self.new ≡ on_side box atom false ∷ on_side box atom true ∷ rest) }
+        ensures { OnFirst self.old (λ box rest.
+            OnOk result (self.new ≡ on_side box atom false ∷ on_side box atom true ∷ rest)) }
     {
         self.path.push(Turn::NeLeft { atom })?;
         self.sides.push(Side { atom, upper: false })?;
@@ -97,24 +98,21 @@ impl Walk {
 
     /// Whether these terms close the first box.
     pub fn combo_closes(&self, key: &Key, terms: &[LeafTerm]) -> bool
-        ensures { (box : PlainBox) (rest : List PlainBox) → self.now ≡ box ∷ rest
-            → result ≡ combo_closes key.now box terms.now }
+        ensures { OnFirst self.now (λ box rest. result ≡ combo_closes key.now box terms.now) }
     {
         closing::combo_closes(key, &self.bounds, &self.sides, terms)
     }
 
     /// Whether this atom's form has one value in the first box, which fails its test.
     pub fn fixed_closes(&self, key: &Key, atom: u16) -> bool
-        ensures { (box : PlainBox) (rest : List PlainBox) → self.now ≡ box ∷ rest
-            → result ≡ fixed_closes key.now box.bounds atom }
+        ensures { OnFirst self.now (λ box rest. result ≡ fixed_closes key.now box.bounds atom) }
     {
         closing::fixed_closes(key, &self.bounds, atom)
     }
 
     /// Whether the first box is empty.
     pub fn is_empty(&self) -> bool
-        ensures { (box : PlainBox) (rest : List PlainBox) → self.now ≡ box ∷ rest
-            → result ≡ is_empty box.bounds }
+        ensures { OnFirst self.now (λ box rest. result ≡ is_empty box.bounds) }
     {
         self.bounds.is_empty()
     }
@@ -138,7 +136,8 @@ fn next_box(
 ) -> Result<bool, NoMemory>
     requires { All IsTurn path.old.items }
     ensures turns { All IsTurn path.new.items }
-    ensures next { IfOk result (λ found. undecided found path.new.items (record { bounds = bounds.new; sides = sides.new.items })
+    ensures next { IfOk result (λ found.
+        undecided found path.new.items (record { bounds = bounds.new; sides = sides.new.items })
         ≡ waiting (reverse path.old.items) (record { bounds = bounds.old; sides = sides.old.items })) }
 {
     while let Some(turn) = path.pop() {

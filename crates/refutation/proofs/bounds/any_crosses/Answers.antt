@@ -5,8 +5,10 @@ use Rattle.refutation.proofs.bounds.any_crosses.Goals as goal
 
 pub returns-then-crosses : goal.returns-then-crosses
 returns-then-crosses c =
-    sym (is_empty-true (record { lower = c.args.lo.now; upper = c.args.hi.now }) c.loop-var.var c.loop-var-test.true (sym c.crosses.ensures ∙ c.if-crosses.true))
+    sym (is_empty-true (record { lower = c.args.lo.now; upper = c.args.hi.now }) c.loop-var.var c.loop-var-test.true
+    (sym c.crosses.ensures ∙ c.if-crosses.true))
 
 pub returns : goal.returns
 returns c =
-    sym (is_empty-false (record { lower = c.args.lo.now; upper = c.args.hi.now }) (λ v lt. c.loop-var.invariant v (omega arith)))
+    sym (is_empty-false (record { lower = c.args.lo.now; upper = c.args.hi.now })
+    (λ v lt. c.loop-var.invariant v (omega arith)))

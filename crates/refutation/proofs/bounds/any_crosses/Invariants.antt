@@ -4,4 +4,6 @@ use Rattle.refutation.proofs.bounds.any_crosses.Given as goal
 
 -- no variable so far
 abbrev pub invariant-loop-var : goal.invariant-loop-var
-invariant-loop-var l = (v : ℕ) → v < l.var → crosses (lower_of (record { lower = l.lo; upper = l.hi }) v) (upper_of (record { lower = l.lo; upper = l.hi }) v) ≡ false
+invariant-loop-var l =
+    (v : ℕ) → v < l.var → crosses (lower_of (record { lower = l.lo; upper = l.hi }) v)
+    (upper_of (record { lower = l.lo; upper = l.hi }) v) ≡ false

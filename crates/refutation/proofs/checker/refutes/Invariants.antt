@@ -1,10 +1,12 @@
-use Rattle.std.proofs.Common.{◌≡◌, ◌≤◌, length, drop}
-use Rattle.refutation.specs.Reading.{reading, tree_reading}
+use Rattle.std.proofs.Common.{◌≤◌, false, length, drop}
+use Rattle.refutation.specs.Reading.{read_over, strict_reading}
+use Rattle.refutation.proofs.ReadingLemmas.{IsBehind}
 use Rattle.refutation.proofs.checker.refutes.Given as goal
 
--- the reading of what is left ends as that of the whole tree
+-- what is left is read as by the reading of the whole tree behind the nodes so far
 abbrev pub invariant-loop-i : goal.invariant-loop-i
 invariant-loop-i l = record {
-  ending : reading l.key l.i (drop l.i l.nodes) (drop l.taken l.terms) l.walk ≡ tree_reading l.key l.nodes l.terms;
+  reading : IsBehind l.i (read_over false l.key (drop l.i l.nodes) (drop l.taken l.terms) l.walk)
+      (strict_reading l.key l.nodes l.terms);
   within : l.taken ≤ length l.terms;
 }

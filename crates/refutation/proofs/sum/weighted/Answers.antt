@@ -7,4 +7,6 @@ use Rattle.refutation.proofs.sum.weighted.Goals as goal
 pub returns-clause-size : goal.returns-clause-size
 returns-clause-size c =
     let fits : FitsSigned w128 c.wide_product.result = record { sfits = c.wide_product.type_inv } in
-    weighted_size c.args.weight c.args.number _ (to_z-of_z w128 c.wide_product.result fits ∙ c.wide_product.ensures ∙ ap (λ (x : ℤ). x *ℤ to_z w64 (of_z w64 c.args.number)) (to_z-of_z w64 c.args.weight c.ranges.weight) ∙ ap (λ (x : ℤ). c.args.weight *ℤ x) (to_z-of_z w64 c.args.number c.ranges.number)) c.requires.weight
+    weighted_size c.args.weight c.args.number _ (to_z-of_z w128 c.wide_product.result fits ∙ c.wide_product.ensures
+    ∙ ap (λ (x : ℤ). x *ℤ to_z w64 (of_z w64 c.args.number)) (to_z-of_z w64 c.args.weight c.ranges.weight)
+    ∙ ap (λ (x : ℤ). c.args.weight *ℤ x) (to_z-of_z w64 c.args.number c.ranges.number)) c.requires.weight

@@ -19,22 +19,35 @@ abbrev old_of : After-sum_of-self-inside → PlainSum
 old_of c = record { coefs = c.self.inside.coefs; constant = c.self.inside.constant; count = c.self.inside.count }
 
 abbrev new_of : After-sum_of-self-inside → PlainSum
-new_of c = record { coefs = c.add_scaled.new.coefs; constant = to_z w128 (of_z w128 c.sum_of-self-inside.result); count = c.self.inside.count + 1 }
+new_of c =
+    record {
+      coefs = c.add_scaled.new.coefs;
+      constant = to_z w128 (of_z w128 c.sum_of-self-inside.result);
+      count = c.self.inside.count + 1;
+    }
 
 abbrev more_of : After-sum_of-self-inside → Multiple
 more_of c = record { form = c.args.form.now; constant = c.args.constant; weight = c.args.weight }
 
 adds : (c : After-sum_of-self-inside) → AddsMultiple (old_of c) (new_of c) (more_of c)
 adds c =
-    let same_constant : to_z w64 (of_z w64 c.args.constant) ≡ c.args.constant = to_z-of_z w64 c.args.constant c.ranges.constant in
+    let same_constant : to_z w64 (of_z w64 c.args.constant)
+    ≡ c.args.constant = to_z-of_z w64 c.args.constant c.ranges.constant in
     let few : c.self.inside.count ≤ 8 = c.self.invariant.few in
-    let more : unsigned_abs c.weighted.result ≤ 2 ^ 81 = omega (arith, c.weighted.ensures.size, ap unsigned_abs same_constant, c.requires.constant) in
-    AddsMultiple-from_parts (old_of c) (new_of c) c.args.form.now c.args.constant c.args.weight (to_z w64 (of_z w64 c.args.constant)) (to_z w64 (of_z w64 c.args.weight)) c.weighted.result (to_z-of_z w64 c.args.weight c.ranges.weight) same_constant c.add_scaled.ensures (omega (arith, ints, c.sum_of-self-inside.ensures, c.self.invariant.constant, few, more)) c.weighted.ensures.value refl
+    let more : unsigned_abs c.weighted.result ≤ 2 ^ 81 = omega
+    (arith, c.weighted.ensures.size, ap unsigned_abs same_constant, c.requires.constant) in
+    AddsMultiple-from_parts (old_of c) (new_of c) c.args.form.now c.args.constant c.args.weight
+    (to_z w64 (of_z w64 c.args.constant)) (to_z w64 (of_z w64 c.args.weight)) c.weighted.result
+    (to_z-of_z w64 c.args.weight c.ranges.weight) same_constant c.add_scaled.ensures
+    (omega (arith, ints, c.sum_of-self-inside.ensures, c.self.invariant.constant, few, more)) c.weighted.ensures.value
+    refl
 
 pub invariant_of-self : goal.invariant_of-self
 invariant_of-self c =
     let b : After-sum_of-self-inside = (goal.at.invariant_of-self c).After-sum_of-self-inside in
-    IsSum-more (old_of b) (new_of b) (more_of b) c.self.invariant (adds b) (few_before b) (omega (arith, c.add_scaled.auto.coefs, c.self.told)) c.requires.form c.requires.weight (constant_size c.args.weight c.args.constant c.requires.weight c.requires.constant)
+    IsSum-more (old_of b) (new_of b) (more_of b) c.self.invariant (adds b) (few_before b)
+    (omega (arith, c.add_scaled.auto.coefs, c.self.told)) c.requires.form c.requires.weight
+    (constant_size c.args.weight c.args.constant c.requires.weight c.requires.constant)
 
 pub returns : goal.returns
 returns c =
