@@ -2,6 +2,7 @@
 
 ghost use Rattle.std.specs.Prelude.{◌≡◌, ◌↔◌, IsTrue};
 
+use std::alloc::AllocError;
 use std::marker::Model;
 
 /// One term of a form: a multiple of a variable.
@@ -26,6 +27,17 @@ impl Model for Form {
     ghost Value = { List FormTerm };
 
     ghost view = { λ f. f.terms.items };
+}
+
+impl Clone for Form {
+    /// A copy equals what it was made of.
+    ghost is_clone = { λ form copy. copy ≡ form };
+
+    fn clone(&self) -> Result<Form, AllocError> {
+        Ok(Form {
+            terms: self.terms.clone()?,
+        })
+    }
 }
 
 impl Form {

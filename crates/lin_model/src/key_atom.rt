@@ -4,12 +4,13 @@ ghost use Rattle.std.specs.Prelude.{◌≡◌, ◌^◌, ◌<◌, ◌≤◌, ◌�
 ghost use Rattle.std.specs.List.{All};
 ghost use Rattle.lin_model.specs.Form.{form_value, value_at, form_width, IsGcdOf};
 ghost use Rattle.lin_model.specs.KeyAtom.{PlainKeyAtom, AscendsBelow64, HasSmallCoefficients, BeginsPositive, IsCanonicalForm, IsCanonical, KeyAtomHolds};
-ghost use Rattle.lin_model.specs.Point.{IsPoint};
+ghost use Rattle.lin_model.specs.Point.{AreSides};
 
 use crate::form::{Form, FormTerm};
 use crate::gcd::gcd_of;
 use crate::op::Op;
-use crate::point::Point;
+use crate::point::{MAX_SIDE, Point};
+use std::alloc::AllocError;
 use std::marker::Model;
 
 /// An atom `form op constant` in its canonical form: one to 64 terms with strictly ascending variables below 64, coefficients that aren't 0 and are below 2^40 in size, the first of them positive and their greatest common divisor 1, and a constant below 2^50 in size.
@@ -28,6 +29,19 @@ impl Model for KeyAtom {
     ghost view = { λ a. record { form = a.form; op = a.op; constant = a.constant } };
 
     ghost invariant = { λ a. IsCanonical (record { form = a.form; op = a.op; constant = a.constant }) };
+}
+
+impl Clone for KeyAtom {
+    /// A copy equals what it was made of.
+    ghost is_clone = { λ atom copy. copy ≡ atom };
+
+    fn clone(&self) -> Result<KeyAtom, AllocError> {
+        Ok(KeyAtom {
+            form: self.form.clone()?,
+            op: self.op,
+            constant: self.constant,
+        })
+    }
 }
 
 impl KeyAtom {
@@ -77,12 +91,31 @@ impl KeyAtom {
         width_of(self.form().terms())
     }
 
+    /// Whether both have the same form, op and constant.
+    pub fn equals(&self, other: &KeyAtom) -> bool
+        ensures { IsTrue result ↔ (self.now ≡ other.now) }
+    {
+        self.form().equals(other.form())
+            && self.op() == other.op()
+            && self.constant() == other.constant()
+    }
+
     /// Whether the atom holds at the point.
     pub fn holds(&self, point: &Point) -> bool
         requires { form_width self.now.form ≤ length point.now }
         ensures { IsTrue result ↔ KeyAtomHolds self.now point.now }
     {
-        let value = value_of(self.form().terms(), point.values());
+        self.holds_at(point.values())
+    }
+
+    /// Whether the atom holds where the variables have these values, each at the place of its number. They may be as
+    /// large as the sides of a box, so no point has to be made of them.
+    pub fn holds_at(&self, values: &[i64]) -> bool
+        requires small { AreSides values.now }
+        requires wide { form_width self.now.form ≤ length values.now }
+        ensures { IsTrue result ↔ KeyAtomHolds self.now values.now }
+    {
+        let value = value_of(self.form().terms(), values);
         self.op().passes(self.constant(), value)
     }
 }
@@ -104,7 +137,7 @@ fn width_of(terms: &[FormTerm]) -> u8
 fn value_of(terms: &[FormTerm], values: &[i64]) -> i128
     requires few { length terms.now ≤ 64 }
     requires small { All (λ t. unsigned_abs t.coef < 2 ^ 40) terms.now }
-    requires point { IsPoint values.now }
+    requires sides { AreSides values.now }
     requires wide { form_width terms.now ≤ length values.now }
     ensures { result ≡ form_value terms.now values.now }
 {
@@ -115,13 +148,13 @@ fn value_of(terms: &[FormTerm], values: &[i64]) -> i128
     sum
 }
 
-/// A coefficient times the value of its variable, which is at most 2^72 in size.
+/// A coefficient times the value of its variable, which is at most 2^73 in size.
 fn term_value(term: FormTerm, values: &[i64]) -> i128
     requires small { unsigned_abs term.coef < 2 ^ 40 }
-    requires point { IsPoint values.now }
+    requires sides { AreSides values.now }
     requires wide { term.var < length values.now }
     ensures value { result ≡ term.coef *ℤ value_at values.now term.var }
-    ensures size { unsigned_abs result ≤ 2 ^ 72 }
+    ensures size { unsigned_abs result ≤ 2 ^ 73 }
 {
     scaled(term.coef, values[usize::from(term.var)])
 }
@@ -129,9 +162,9 @@ fn term_value(term: FormTerm, values: &[i64]) -> i128
 /// A coefficient times a value.
 fn scaled(coef: i64, value: i64) -> i128
     requires coef { unsigned_abs coef < 2 ^ 40 }
-    requires value { unsigned_abs value ≤ 2 ^ 32 }
+    requires value { unsigned_abs value ≤ MAX_SIDE }
     ensures value { result ≡ coef *ℤ value }
-    ensures size { unsigned_abs result ≤ 2 ^ 72 }
+    ensures size { unsigned_abs result ≤ 2 ^ 73 }
 {
     i128::from(coef) * i128::from(value)
 }

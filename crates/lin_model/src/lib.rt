@@ -26,7 +26,7 @@ pub use limits::fits;
 pub use name::{MAX_NAME, Name, begins_name, continues_name, is_name, is_reserved};
 pub use op::Op;
 pub use order::{cmp_atoms, order_is_total};
-pub use point::Point;
+pub use point::{MAX_SIDE, MAX_VALUE, MAX_VALUES, Point};
 pub use session::{MAX_EXECUTORS, MAX_QUERIES, Script, Session};
 pub use term::{Expr, MAX_CONSTANT, MAX_FACTOR, MAX_TERMS, Term};
 pub use var::{MAX_BOUND, Var};

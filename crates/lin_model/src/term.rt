@@ -3,6 +3,7 @@
 ghost use Rattle.std.specs.Prelude.{◌≡◌, ◌↔◌, ◌≤◌, ◌^◌, ◌*◌, length, unsigned_abs, IsTrue, Option, ℕ, ℤ, ◌+ℤ◌, ◌*ℤ◌, take};
 ghost use Rattle.lin_model.specs.Terms.{PlainTerm, TermFits, ExprFits, term_value, value_of, value_at, weight};
 
+use std::alloc::AllocError;
 use std::marker::Model;
 
 /// The greatest size of a factor.
@@ -73,6 +74,17 @@ impl Model for Expr {
     ghost view = { λ expr. expr.terms.items };
 
     ghost invariant = { λ expr. ExprFits expr.terms.items };
+}
+
+impl Clone for Expr {
+    /// A copy equals what it was made of.
+    ghost is_clone = { λ side copy. copy ≡ side };
+
+    fn clone(&self) -> Result<Expr, AllocError> {
+        Ok(Expr {
+            terms: self.terms.clone()?,
+        })
+    }
 }
 
 impl Expr {
