@@ -1,5 +1,6 @@
 -- What a name is made of, and the words that are none.
 use Rattle.std.specs.Prelude.{ℕ, ◌≤◌, Bool, ◌||◌, ◌&&◌, nat_le, ◌==◌, List, length, slice_index, All, IsTrue, IsFalse, codes, bytes_eq}
+use Rattle.lin_model.specs.declared.name.TheConstants.{MAX_NAME}
 
 -- `A` to `Z` or `a` to `z`
 abbrev pub is_letter : ℕ → Bool
@@ -25,7 +26,7 @@ is_reserved bytes =
 
 -- a name: at most 64 bytes, the first of which begins a name, and no reserved word
 pub record IsName (bytes : List ℕ) : Type 0 where
-  pub short : length bytes ≤ 64
+  pub short : length bytes ≤ MAX_NAME
   pub starts : IsTrue (is_name_start (slice_index bytes 0))
   pub goes_on : All (λ b. IsTrue (is_name_byte b)) bytes
   pub free : IsFalse (is_reserved bytes)

@@ -6,11 +6,14 @@ ghost use Rattle.lin_model.specs.KeyAtom.{IsCanonical};
 ghost use Rattle.lin_model.specs.Key.{FitsKey, IsKey, Ascends, key_width, KeyHolds};
 ghost use Rattle.lin_model.specs.Point.{AreSides};
 
-use crate::key_atom::KeyAtom;
+use crate::key_atom::{KeyAtom, MAX_KEY_VARS};
 use crate::order::cmp_atoms;
 use crate::point::Point;
 use std::alloc::AllocError;
 use std::marker::Model;
+
+/// The most atoms of a key.
+pub const MAX_KEY_ATOMS: usize = 384;
 
 /// At most 384 canonical atoms, each before the next in the order of atoms.
 #[derive(Debug, Drop)]
@@ -22,13 +25,14 @@ pub struct Key {
 impl Model for Key {
     ghost use Rattle.std.specs.Prelude.{◌≡◌, ◌≤◌, List};
     ghost use Rattle.lin_model.specs.KeyAtom.{PlainKeyAtom};
+    ghost use Rattle.lin_model.specs.declared.key_atom.TheConstants.{MAX_KEY_VARS};
     ghost use Rattle.lin_model.specs.Key.{IsKey, key_width};
 
     ghost Value = { List PlainKeyAtom };
 
     ghost view = { λ k. k.atoms.items };
 
-    ghost invariant = { λ k. IsKey k.atoms.items × (k.width ≡ key_width k.atoms.items) × (k.width ≤ 64) };
+    ghost invariant = { λ k. IsKey k.atoms.items × (k.width ≡ key_width k.atoms.items) × (k.width ≤ MAX_KEY_VARS) };
 }
 
 impl Clone for Key {
@@ -77,7 +81,7 @@ impl Key {
     /// One more than the greatest variable number, 0 where there is no atom.
     pub fn width(&self) -> u8
         ensures width { result ≡ key_width self.now }
-        ensures within { result ≤ 64 }
+        ensures within { result ≤ MAX_KEY_VARS }
     {
         self.width
     }
@@ -119,7 +123,7 @@ impl Key {
 fn fits_key(atoms: &[KeyAtom]) -> bool
     ensures { IsTrue result ↔ FitsKey atoms.now }
 {
-    atoms.len() <= 384 && ascends(atoms)
+    atoms.len() <= MAX_KEY_ATOMS && ascends(atoms)
 }
 
 /// Whether each atom comes before the next.
@@ -134,7 +138,7 @@ fn ascends(atoms: &[KeyAtom]) -> bool
 /// One more than the greatest variable number of the atoms, 0 where there is none.
 fn width_of(atoms: &[KeyAtom]) -> u8
     ensures width { result ≡ key_width atoms.now }
-    ensures within { result ≤ 64 }
+    ensures within { result ≤ MAX_KEY_VARS }
     ensures canonical { All IsCanonical atoms.now }
 {
     let mut width = 0;

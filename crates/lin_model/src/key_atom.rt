@@ -13,7 +13,18 @@ use crate::point::{MAX_SIDE, Point};
 use std::alloc::AllocError;
 use std::marker::Model;
 
-/// An atom `form op constant` in its canonical form: one to 64 terms with strictly ascending variables below 64, coefficients that aren't 0 and are below 2^40 in size, the first of them positive and their greatest common divisor 1, and a constant below 2^50 in size.
+/// The most variables of a key, which are numbered from 0.
+pub const MAX_KEY_VARS: u8 = 64;
+
+/// Each coefficient of a canonical atom is smaller in size.
+pub const COEF_LIMIT: u64 = 1 << 40;
+
+/// The constant of a canonical atom is smaller in size.
+pub const CONSTANT_LIMIT: u64 = 1 << 50;
+
+/// An atom `form op constant` in its canonical form: one to 64 terms with strictly ascending variables below 64,
+/// coefficients that aren't 0 and are below 2^40 in size, the first of them positive and their greatest common divisor
+/// 1, and a constant below 2^50 in size.
 #[derive(Debug, Drop)]
 pub struct KeyAtom {
     form: Form,
@@ -52,7 +63,7 @@ impl KeyAtom {
         ensures value { IfSome result
             (λ a. a ≡ record { form = form; op = op; constant = constant }) }
     {
-        if has_canonical_form(form.terms()) && constant.unsigned_abs() < 1 << 50 {
+        if has_canonical_form(form.terms()) && constant.unsigned_abs() < CONSTANT_LIMIT {
             Some(KeyAtom { form, op, constant })
         } else {
             None
@@ -85,7 +96,7 @@ impl KeyAtom {
     /// One more than the greatest variable number of the form.
     pub fn width(&self) -> u8
         ensures width { result ≡ form_width self.now.form }
-        ensures within { result ≤ 64 }
+        ensures within { result ≤ MAX_KEY_VARS }
         ensures canonical { IsCanonical self.now }
     {
         width_of(self.form().terms())
@@ -122,9 +133,9 @@ impl KeyAtom {
 
 /// One more than the greatest variable number of the terms, 0 where there is none.
 fn width_of(terms: &[FormTerm]) -> u8
-    requires { All (λ t. t.var < 64) terms.now }
+    requires { All (λ t. t.var < MAX_KEY_VARS) terms.now }
     ensures width { result ≡ form_width terms.now }
-    ensures within { result ≤ 64 }
+    ensures within { result ≤ MAX_KEY_VARS }
 {
     let mut width = 0;
     for term in terms {
@@ -135,8 +146,8 @@ fn width_of(terms: &[FormTerm]) -> u8
 
 /// The sum of the terms, each its coefficient times the value of its variable.
 fn value_of(terms: &[FormTerm], values: &[i64]) -> i128
-    requires few { length terms.now ≤ 64 }
-    requires small { All (λ t. unsigned_abs t.coef < 2 ^ 40) terms.now }
+    requires few { length terms.now ≤ MAX_KEY_VARS }
+    requires small { All (λ t. unsigned_abs t.coef < COEF_LIMIT) terms.now }
     requires sides { AreSides values.now }
     requires wide { form_width terms.now ≤ length values.now }
     ensures { result ≡ form_value terms.now values.now }
@@ -150,7 +161,7 @@ fn value_of(terms: &[FormTerm], values: &[i64]) -> i128
 
 /// A coefficient times the value of its variable, which is at most 2^73 in size.
 fn term_value(term: FormTerm, values: &[i64]) -> i128
-    requires small { unsigned_abs term.coef < 2 ^ 40 }
+    requires small { unsigned_abs term.coef < COEF_LIMIT }
     requires sides { AreSides values.now }
     requires wide { term.var < length values.now }
     ensures value { result ≡ term.coef *ℤ value_at values.now term.var }
@@ -161,7 +172,7 @@ fn term_value(term: FormTerm, values: &[i64]) -> i128
 
 /// A coefficient times a value.
 fn scaled(coef: i64, value: i64) -> i128
-    requires coef { unsigned_abs coef < 2 ^ 40 }
+    requires coef { unsigned_abs coef < COEF_LIMIT }
     requires value { unsigned_abs value ≤ MAX_SIDE }
     ensures value { result ≡ coef *ℤ value }
     ensures size { unsigned_abs result ≤ 2 ^ 73 }
@@ -173,7 +184,7 @@ fn scaled(coef: i64, value: i64) -> i128
 fn has_canonical_form(terms: &[FormTerm]) -> bool
     ensures { IsTrue result ↔ IsCanonicalForm terms.now }
 {
-    if terms.is_empty() || terms.len() > 64 {
+    if terms.is_empty() || terms.len() > usize::from(MAX_KEY_VARS) {
         return false;
     }
     if !variables_ascend(terms) {
@@ -189,14 +200,15 @@ fn has_canonical_form(terms: &[FormTerm]) -> bool
 fn variables_ascend(terms: &[FormTerm]) -> bool
     ensures { IsTrue result ↔ AscendsBelow64 terms.now }
 {
-    terms.windows(2).all(|pair| pair[0].var < pair[1].var) && terms.iter().all(|t| t.var < 64)
+    terms.windows(2).all(|pair| pair[0].var < pair[1].var)
+        && terms.iter().all(|t| t.var < MAX_KEY_VARS)
 }
 
 /// Whether the coefficients aren't 0 and are below 2^40 in size.
 fn coefficients_fit(terms: &[FormTerm]) -> bool
     ensures { IsTrue result ↔ HasSmallCoefficients terms.now }
 {
-    terms.iter().all(|t| t.coef != 0) && terms.iter().all(|t| t.coef.unsigned_abs() < 1 << 40)
+    terms.iter().all(|t| t.coef != 0) && terms.iter().all(|t| t.coef.unsigned_abs() < COEF_LIMIT)
 }
 
 /// Whether the first coefficient is positive.

@@ -7,10 +7,10 @@ use std::alloc::AllocError;
 use std::marker::Model;
 
 /// The greatest size of a factor.
-pub const MAX_FACTOR: i64 = 1 << 31;
+pub const MAX_FACTOR: u64 = 1 << 31;
 
 /// The greatest size of a constant.
-pub const MAX_CONSTANT: i64 = 1 << 40;
+pub const MAX_CONSTANT: u64 = 1 << 40;
 
 /// The most terms that a side has.
 pub const MAX_TERMS: usize = 64;
@@ -132,7 +132,7 @@ fn term_value(term: &Term, values: &[i64]) -> i128
 
 /// The value of at most 64 terms together.
 fn value_of(terms: &[Term], values: &[i64]) -> i128
-    requires { length terms.now ≤ 64 }
+    requires { length terms.now ≤ MAX_TERMS }
     ensures { result ≡ value_of terms.now values.now }
 {
     let mut sum = 0;

@@ -9,7 +9,7 @@ use std::alloc::AllocError;
 use std::marker::Model;
 
 /// The greatest size of a bound.
-pub const MAX_BOUND: i64 = 1 << 31;
+pub const MAX_BOUND: u64 = 1 << 31;
 
 /// A variable: its name, and its bounds `lo` to `hi`, both included, with -2^31 <= lo <= hi <= 2^31.
 #[derive(Debug, Drop)]
