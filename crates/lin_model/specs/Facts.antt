@@ -42,7 +42,10 @@ same_from_IsGcdOf form g h a b = dvd_antisymm (b.greatest g a.divides) (a.greate
 -- no form is wider than the key
 pub key_width-above : (atoms : List PlainKeyAtom) → All (λ a. form_width a.form ≤ key_width atoms) atoms
 key_width-above [] = All-nil (λ a. form_width a.form ≤ 0)
-key_width-above (a ∷ atoms) = All-cons (λ b. form_width b.form ≤ max (form_width a.form) (key_width atoms)) a atoms (omega arith) (All-weaker (λ b. form_width b.form ≤ key_width atoms) (λ b. form_width b.form ≤ max (form_width a.form) (key_width atoms)) (λ b h. omega arith) atoms (key_width-above atoms))
+key_width-above (a ∷ atoms) = All-cons (λ b. form_width b.form ≤ max (form_width a.form) (key_width atoms)) a atoms
+    (omega arith) (All-weaker (λ b. form_width b.form ≤ key_width atoms)
+    (λ b. form_width b.form ≤ max (form_width a.form) (key_width atoms)) (λ b h. omega arith) atoms
+    (key_width-above atoms))
 
 -- a form of variables of keys is no wider than a key may be
 form-narrow : (form : List FormTerm) → All (λ t. t.var < MAX_KEY_VARS) form → form_width form ≤ MAX_KEY_VARS
@@ -52,7 +55,11 @@ form-narrow (t ∷ ts) h = omega (arith, h 0 t (omega arith), form-narrow ts (λ
 -- nor are canonical atoms
 atoms-narrow : (atoms : List PlainKeyAtom) → All IsCanonical atoms → key_width atoms ≤ MAX_KEY_VARS
 atoms-narrow [] h = omega arith
-atoms-narrow (a ∷ atoms) h = omega (arith, form-narrow a.form (h 0 a (omega arith)).form.variables.in_range, atoms-narrow atoms (λ k d lt. h (suc k) d (omega arith)))
+atoms-narrow (a ∷ atoms) h = omega (
+  arith,
+  form-narrow a.form (h 0 a (omega arith)).form.variables.in_range,
+  atoms-narrow atoms (λ k d lt. h (suc k) d (omega arith)),
+)
 
 -- nor is a key
 pub key-narrow : (key : List PlainKeyAtom) → IsKey key → key_width key ≤ MAX_KEY_VARS

@@ -14,7 +14,8 @@ pub struct FormTerm {
     pub coef: i64,
 }
 
-/// The left side of an atom, as a list of terms in any order. What a canonical form keeps besides is asked by `KeyAtom::new`.
+/// The left side of an atom, as a list of terms in any order. What a canonical form keeps besides is asked by
+/// `KeyAtom::new`.
 #[derive(Debug, Drop)]
 pub struct Form {
     terms: Vec<FormTerm>,

@@ -3,7 +3,8 @@
 ghost use Rattle.std.specs.Prelude.{◌≡◌, ◌^◌, ◌<◌, ◌≤◌, ◌↔◌, ◌*ℤ◌, length, unsigned_abs, IsTrue, IsSome, IfSome};
 ghost use Rattle.std.specs.List.{All};
 ghost use Rattle.lin_model.specs.Form.{form_value, value_at, form_width, IsGcdOf};
-ghost use Rattle.lin_model.specs.KeyAtom.{PlainKeyAtom, AscendsBelow64, HasSmallCoefficients, BeginsPositive, IsCanonicalForm, IsCanonical, KeyAtomHolds};
+ghost use Rattle.lin_model.specs.KeyAtom.{PlainKeyAtom, AscendsBelow64, HasSmallCoefficients, BeginsPositive};
+ghost use Rattle.lin_model.specs.KeyAtom.{IsCanonicalForm, IsCanonical, KeyAtomHolds};
 ghost use Rattle.lin_model.specs.Point.{AreSides};
 
 use crate::form::{Form, FormTerm};

@@ -15,7 +15,8 @@ pub const MAX_VALUE: u64 = 1 << 32;
 /// The greatest size of a side of a box: one past the values of points.
 pub const MAX_SIDE: u64 = MAX_VALUE + 1;
 
-/// A short list of whole numbers: no more than 64, none of them larger than 2^32 in size. Each is the value of the variable whose number is its place, from 0.
+/// A short list of whole numbers: no more than 64, none of them larger than 2^32 in size. Each is the value of the
+/// variable whose number is its place, from 0.
 #[derive(Debug, Drop)]
 pub struct Point {
     values: Vec<i64>,

@@ -1,6 +1,7 @@
 //! Terms, and the sides of a comparison.
 
-ghost use Rattle.std.specs.Prelude.{◌≡◌, ◌↔◌, ◌≤◌, ◌^◌, ◌*◌, length, unsigned_abs, IsTrue, Option, ℕ, ℤ, ◌+ℤ◌, ◌*ℤ◌, take};
+ghost use Rattle.std.specs.Prelude.{◌≡◌, ◌↔◌, ◌≤◌, ◌^◌, ◌*◌, length, unsigned_abs, IsTrue, Option, ℕ, ℤ, ◌+ℤ◌, ◌*ℤ◌};
+ghost use Rattle.std.specs.Prelude.{take};
 ghost use Rattle.lin_model.specs.Terms.{PlainTerm, TermFits, ExprFits, term_value, value_of, value_at, weight};
 
 use std::alloc::AllocError;
@@ -15,7 +16,8 @@ pub const MAX_CONSTANT: u64 = 1 << 40;
 /// The most terms that a side has.
 pub const MAX_TERMS: usize = 64;
 
-/// One item of a side. With a variable it is a factor, no larger than 2^31 in size; without one it is a constant, for which 2^40 is the limit.
+/// One item of a side. With a variable it is a factor, no larger than 2^31 in size; without one it is a constant, for
+/// which 2^40 is the limit.
 #[derive(Clone, Copy, Debug)]
 pub struct Term {
     factor: i64,
