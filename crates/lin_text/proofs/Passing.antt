@@ -11,7 +11,7 @@ use Rattle.lin_text.specs.Faults.{begins_variable, begins_atom, begins_item, dec
 use Rattle.lin_text.proofs.Places.{Place, start, var_name, item, size, after, next, after_next, run, run-append, run-joint, run-side, start-side, run-BeginsLine}
 use Rattle.lin_text.proofs.Shapes.{Shape, Shape-next, BeginsLine-run}
 
--- the line goes on behind these tokens as it does at the place; v tells whether it declares a variable
+-- the line goes on behind these tokens as it does at the place; v says whether it declares a variable
 pub record At (v : Bool) (front : List Piece) (s : Place) : Type 0 where
   pub step : (q : Piece) → (front ≡ [] → q ≡ var → ⊥) → run start (front ++ q ∷ []) ≡ next s q
   pub shape : Shape s front

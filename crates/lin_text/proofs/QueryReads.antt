@@ -43,7 +43,7 @@ module _ (p : Bool) (bytes : List ℕ) (from at : ℕ) (q : PlainCondition) (got
       read_more p bytes from at q r ts.0 got lt ts.1 (begins-word p bytes at ts.0 l ts.1 is ∙ no_word) (subst (λ (x : Result PlainCondition Fault). LineResult got.done ts.0 q x) e (line_result p bytes from at q got l is ts.0 ts.1))
 
   at_fault : is_word_class l.class ≡ false → (e : ReadError) → Gives {X = PlainCondition} (Err e) (line_at p bytes q l at) → IsReadError p bytes from e
-  at_fault no_word errors.Memory g = tt
+  at_fault no_word errors.NoMemory g = tt
   at_fault no_word (errors.Fault f) g =
       let ts = tokens_here p bytes at lt in
       faulty p bytes from at q ts.0 f got lt ts.1 (begins-word p bytes at ts.0 l ts.1 is ∙ no_word) (subst (λ (x : Result PlainCondition Fault). LineResult got.done ts.0 q x) g (line_result p bytes from at q got l is ts.0 ts.1))

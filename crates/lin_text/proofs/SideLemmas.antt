@@ -15,7 +15,7 @@ behind front read = read >>= λ more. Ok (front ++ more.0, more.1)
 -- a fault that was passed on
 pub Gives-fault : {X : Type 0} (r : Result X ReadError) (read : Result X Fault) (f : Fault) → IsErrAnd r (λ e. e ≡ errors.Fault f) → read ≡ Err f → Gives r read
 Gives-fault (Ok x) read f h e = absurd h
-Gives-fault (Err errors.Memory) read f h e = tt
+Gives-fault (Err errors.NoMemory) read f h e = tt
 Gives-fault (Err (errors.Fault g)) read f h e = e ∙ sym (let same : g ≡ f = cc in ap Err same)
 
 -- what one item more gives

@@ -1,9 +1,12 @@
 -- What the reader answers for a part of a line: a value with the place behind it, or the first fault.
-use Rattle.std.specs.Prelude.{◌≡◌, ℕ, ◌^◌, zero, suc, nat_lt, Bool, true, false, not, List, [], ◌∷◌, ◌++◌, ◌==◌, length, slice_range, bytes_eq, position, is_some, ℤ, pos, neg_ℤ, int_lt, Option, Some, None, Result, Ok, Err, if◌then◌else◌}
+use Rattle.std.specs.Prelude.{◌≡◌, ℕ, zero, suc, nat_lt, Bool, true, false, not, List, [], ◌∷◌, ◌++◌, ◌==◌, length, slice_range, bytes_eq, position, is_some, ℤ, pos, neg_ℤ, int_lt, Option, Some, None, Result, Ok, Err, if◌then◌else◌}
 use Rattle.lin_model.specs.Terms.{PlainTerm, PlainVar}
 use Rattle.lin_model.specs.Conditions.{PlainCondition}
 use Rattle.lin_model.specs.declared.atom.Atom.{Atom}
 use Rattle.lin_model.specs.declared.atom.Cmp.{Cmp}
+use Rattle.lin_model.specs.declared.condition.TheConstants.{MAX_VARS, MAX_ATOMS}
+use Rattle.lin_model.specs.declared.term.TheConstants.{MAX_FACTOR, MAX_CONSTANT, MAX_TERMS}
+use Rattle.lin_model.specs.declared.var.TheConstants.{MAX_BOUND}
 use Rattle.lin_text.specs.declared.fault.TextKind.{TextKind}
 use Rattle.lin_text.specs.declared.fault.TextKind.TheVariants.{Token, Syntax, NumberTooLarge, UnknownName, NameTwice, EmptyRange, TooManyVars, TooManyAtoms, TooManyTerms}
 use Rattle.lin_text.specs.declared.refusal.Fault.{Fault}
@@ -23,10 +26,10 @@ abbrev pub ◌>>=◌ : {A B : Type 0} → Result A Fault → (A → Result B Fau
 (Ok x) >>= f = f x
 (Err e) >>= f = Err e
 
--- what a function that takes memory returned is what reading gives, unless memory ran out
+-- what a function that takes memory returned is what reading gives, unless that is `NoMemory`
 abbrev pub Gives : {X : Type 0} → Result X ReadError → Result X Fault → Type 0
 Gives (Ok x) read = read ≡ Ok x
-Gives (Err errors.Memory) read = Unit {0}
+Gives (Err errors.NoMemory) read = Unit {0}
 Gives (Err (errors.Fault f)) read = read ≡ Err f
 
 -- the first token from a place on, as the reader sees it
@@ -48,7 +51,7 @@ refusal l = fault_at (refusal_kind l.class) l.from
 
 -- the number of a bound, by the class of its token
 abbrev pub bound_by : Class → Lexeme → Result (ℤ × ℕ) Fault
-bound_by (Number n) l = if nat_lt (2 ^ 31) n then Err (fault_at NumberTooLarge l.from) else Ok (pos n, l.to)
+bound_by (Number n) l = if nat_lt MAX_BOUND n then Err (fault_at NumberTooLarge l.from) else Ok (pos n, l.to)
 bound_by _ l = Err (refusal l)
 
 -- the number of a bound
@@ -124,8 +127,8 @@ unfoldable pub number_at : Bool → List ℕ → List (List ℕ) → Bool → Le
 number_at p bytes names negative l n =
     let next = lexeme_at p bytes l.to in
     if is_times next.class
-    then (if nat_lt (2 ^ 31) n then Err (fault_at NumberTooLarge l.from) else variable_of bytes names (lexeme_at p bytes next.to) (signed negative n))
-    else (if nat_lt (2 ^ 40) n then Err (fault_at NumberTooLarge l.from) else Ok (record { factor = signed negative n; var = None }, l.to))
+    then (if nat_lt MAX_FACTOR n then Err (fault_at NumberTooLarge l.from) else variable_of bytes names (lexeme_at p bytes next.to) (signed negative n))
+    else (if nat_lt MAX_CONSTANT n then Err (fault_at NumberTooLarge l.from) else Ok (record { factor = signed negative n; var = None }, l.to))
 
 -- an item without the minus of its own, by the class of its first token
 abbrev pub quantity_by : Class → Bool → List ℕ → List (List ℕ) → Bool → Lexeme → Result (PlainTerm × ℕ) Fault
@@ -172,7 +175,7 @@ items_at (suc n) p bytes names subtracted at =
 
 -- a side
 unfoldable pub side_at : Bool → List ℕ → List (List ℕ) → ℕ → Result (List PlainTerm × ℕ) Fault
-side_at p bytes names at = items_at 64 p bytes names false at
+side_at p bytes names at = items_at MAX_TERMS p bytes names false at
 
 -- how two sides compare, by the class of the token
 abbrev pub comparison_by : Class → Lexeme → Result (Cmp × ℕ) Fault
@@ -221,13 +224,13 @@ full_query_at l = if begins_atom_class l.class then fault_at TooManyAtoms l.from
 -- what is declared and compared with one variable more, behind the word
 unfoldable pub var_line_at : Bool → List ℕ → PlainCondition → Lexeme → Result PlainCondition Fault
 var_line_at p bytes q word =
-    if length q.vars == 64 then Err (fault_at TooManyVars word.from) else
+    if length q.vars == MAX_VARS then Err (fault_at TooManyVars word.from) else
     (variable_at p bytes (names_of q.vars) word.to >>= λ v. Ok (record { vars = q.vars ++ v ∷ []; atoms = q.atoms }))
 
 -- what is declared and compared with one atom more, which begins with the token
 unfoldable pub atom_line_at : Bool → List ℕ → PlainCondition → Lexeme → ℕ → Result PlainCondition Fault
 atom_line_at p bytes q first start =
-    if length q.atoms == 256 then Err (full_query_at first) else
+    if length q.atoms == MAX_ATOMS then Err (full_query_at first) else
     (atom_at p bytes (names_of q.vars) start >>= λ a. Ok (record { vars = q.vars; atoms = q.atoms ++ a ∷ [] }))
 
 -- what is declared and compared with one line more, which begins with the token

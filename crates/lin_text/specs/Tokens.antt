@@ -1,6 +1,7 @@
 -- The forms of tokens, and the longest match.
 use Rattle.std.specs.Prelude.{ℕ, ◌+◌, ◌<◌, ◌≤◌, nat_lt, Bool, false, ◌||◌, ◌&&◌, ◌==◌, ◌⊎◌, List, [], ◌∷◌, length, take, drop, slice_index, All, Contains, IsTrue, codes, if◌then◌else◌}
 use Rattle.std.specs.List.{prefix_len}
+use Rattle.lin_model.specs.declared.name.TheConstants.{MAX_NAME}
 use Rattle.lin_model.specs.Names.{is_name_start, is_name_byte, is_digit}
 use Rattle.lin_text.specs.Lines.{is_feed, is_blank}
 use Rattle.lin_text.specs.declared.token.Token.{Token}
@@ -59,7 +60,7 @@ token_length (b ∷ bs) =
 -- the kind of the token that begins with the byte and is so long
 abbrev pub kind_of : ℕ → ℕ → TokenKind
 kind_of b n =
-    if is_name_start b then (if nat_lt 64 n then Bad else Name) else (if is_digit b then Number else (if n == 0 then Bad else Symbol))
+    if is_name_start b then (if nat_lt MAX_NAME n then Bad else Name) else (if is_digit b then Number else (if n == 0 then Bad else Symbol))
 
 -- nothing more on the line, or a byte that begins no token
 abbrev pub nothing_at : TokenKind → ℕ → Token

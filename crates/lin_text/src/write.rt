@@ -27,7 +27,7 @@ pub fn write_query(alloc: Global, c: &Condition) -> Result<Vec<u8>, NoMemory>
     Ok(out)
 }
 
-/// Adds the plain spelling of a condition at the end, and tells that the condition keeps its limits. Where
+/// Adds the plain spelling of a condition at the end, and says that the condition keeps its limits. Where
 /// memory runs out, nothing is added.
 pub fn push_query(out: &mut Vec<u8>, c: &Condition) -> Result<(), NoMemory>
     ensures text { OnOk result (out.new.items ≡ out.old.items ++ condition_text c.now) }

@@ -32,26 +32,26 @@ session_rank texts.NameTwice = refl
 session_rank texts.EmptyRange = refl
 session_rank texts.NoMemory = refl
 
--- how the fault of a query is told in a session
-data Told (p : Piece) (e n : ℕ) (k : TextKind) (kind : SessionKind) : Type 0 where
-  a_token : k ≡ texts.Syntax → Refused p e n kind → Told p e n k kind
-  as_it_is : (k ≡ texts.Syntax → ⊥) → kind ≡ session_kind k → Told p e n k kind
+-- how the fault of a query is answered in a session
+data Answered (p : Piece) (e n : ℕ) (k : TextKind) (kind : SessionKind) : Type 0 where
+  a_token : k ≡ texts.Syntax → Refused p e n kind → Answered p e n k kind
+  as_it_is : (k ≡ texts.Syntax → ⊥) → kind ≡ session_kind k → Answered p e n k kind
 
-told : (k : TextKind) (p : Piece) (e n : ℕ) → Told p e n k (query_refusal k (class_of p) e n)
-told texts.Syntax p e n = a_token refl (refused p e n)
-told texts.TooManyVars p e n = as_it_is (λ x. cc) refl
-told texts.TooManyAtoms p e n = as_it_is (λ x. cc) refl
-told texts.TooManyTerms p e n = as_it_is (λ x. cc) refl
-told texts.Token p e n = as_it_is (λ x. cc) refl
-told texts.NumberTooLarge p e n = as_it_is (λ x. cc) refl
-told texts.UnknownName p e n = as_it_is (λ x. cc) refl
-told texts.NameTwice p e n = as_it_is (λ x. cc) refl
-told texts.EmptyRange p e n = as_it_is (λ x. cc) refl
-told texts.NoMemory p e n = as_it_is (λ x. cc) refl
+answered : (k : TextKind) (p : Piece) (e n : ℕ) → Answered p e n k (query_refusal k (class_of p) e n)
+answered texts.Syntax p e n = a_token refl (refused p e n)
+answered texts.TooManyVars p e n = as_it_is (λ x. cc) refl
+answered texts.TooManyAtoms p e n = as_it_is (λ x. cc) refl
+answered texts.TooManyTerms p e n = as_it_is (λ x. cc) refl
+answered texts.Token p e n = as_it_is (λ x. cc) refl
+answered texts.NumberTooLarge p e n = as_it_is (λ x. cc) refl
+answered texts.UnknownName p e n = as_it_is (λ x. cc) refl
+answered texts.NameTwice p e n = as_it_is (λ x. cc) refl
+answered texts.EmptyRange p e n = as_it_is (λ x. cc) refl
+answered texts.NoMemory p e n = as_it_is (λ x. cc) refl
 
-told-rank : (p : Piece) (e n : ℕ) (k : TextKind) (kind : SessionKind) → Told p e n k kind → rank kind ≤ 3 + text_rank k
-told-rank p e n k kind (a_token is r) = omega (arith, refused-rank p e n kind r, ap text_rank is)
-told-rank p e n k kind (as_it_is other is) = omega (arith, ap rank is, session_rank k)
+answered-rank : (p : Piece) (e n : ℕ) (k : TextKind) (kind : SessionKind) → Answered p e n k kind → rank kind ≤ 3 + text_rank k
+answered-rank p e n k kind (a_token is r) = omega (arith, refused-rank p e n kind r, ap text_rank is)
+answered-rank p e n k kind (as_it_is other is) = omega (arith, ap rank is, session_rank k)
 
 NoWords-at : (above lines : List PlainLine) (line : PlainLine) (own : List PlainLine) → own ≡ above ++ line ∷ lines → NoWords own → NoWords above × (begins_word (pieces line.tokens) ≡ false)
 NoWords-at [] lines line [] e h = absurd (cc)
@@ -127,8 +127,8 @@ module _ (in_order : LinesAreInOrder) (no_word : WordsStandInNoLine) (bytes : Li
         | inr same ↦ omega (arith, same.0, earlier, le)
       ])
 
-  module _ (kind : SessionKind) (way : Told f.token.piece e n k kind) where
-    -- a fault of the query's text that is told as it is
+  module _ (kind : SessionKind) (way : Answered f.token.piece e n k kind) where
+    -- a fault of the query's text that is answered as it is
     plain : (j : TextKind) → kind ≡ session_kind j → Stands f.above (pieces f.front) f.token.piece (pieces f.after) j → IsOneTooMany (in_query f.above e n) (pieces f.front) f.token.piece kind ⊎ IsOfQuery f.above (pieces f.front) f.token.piece (pieces f.after) kind
     plain j is s = inr (j, is, s)
 
@@ -142,12 +142,12 @@ module _ (in_order : LinesAreInOrder) (no_word : WordsStandInNoLine) (bytes : Li
           | inr same ↦ omega (arith, same.1, ap text_rank is)
         ]
 
-    told_stands : Told f.token.piece e n k kind → IsOneTooMany (in_query f.above e n) (pieces f.front) f.token.piece kind ⊎ IsOfQuery f.above (pieces f.front) f.token.piece (pieces f.after) kind
-    told_stands (a_token is (no_token b t)) = absurd (not_bad is b)
-    told_stands (a_token is (one_executor w full t)) = inl (inl (t, w, omega (arith, full, count_here executor_word)))
-    told_stands (a_token is (one_query w full t)) = inl (inr (t, w, omega (arith, full, count_here query_word)))
-    told_stands (a_token is (cant_come t b x q)) = plain texts.Syntax t (subst (λ (j : TextKind). Stands f.above (pieces f.front) f.token.piece (pieces f.after) j) is f.stands)
-    told_stands (as_it_is other t) = plain k t f.stands
+    answered_stands : Answered f.token.piece e n k kind → IsOneTooMany (in_query f.above e n) (pieces f.front) f.token.piece kind ⊎ IsOfQuery f.above (pieces f.front) f.token.piece (pieces f.after) kind
+    answered_stands (a_token is (no_token b t)) = absurd (not_bad is b)
+    answered_stands (a_token is (one_executor w full t)) = inl (inl (t, w, omega (arith, full, count_here executor_word)))
+    answered_stands (a_token is (one_query w full t)) = inl (inr (t, w, omega (arith, full, count_here query_word)))
+    answered_stands (a_token is (cant_come t b x q)) = plain texts.Syntax t (subst (λ (j : TextKind). Stands f.above (pieces f.front) f.token.piece (pieces f.after) j) is f.stands)
+    answered_stands (as_it_is other t) = plain k t f.stands
 
     stands : StandsInLine (in_query f.above e n) f.line kind place
     stands = record {
@@ -156,7 +156,7 @@ module _ (in_order : LinesAreInOrder) (no_word : WordsStandInNoLine) (bytes : Li
       after = f.after;
       in_line = f.in_line;
       place = f.place;
-      stands = stands_query f.above e n f.line own.1 kind (pieces f.front) f.token.piece (pieces f.after) (told_stands way);
+      stands = stands_query f.above e n f.line own.1 kind (pieces f.front) f.token.piece (pieces f.after) (answered_stands way);
     }
 
     -- tokens at one place are one
@@ -167,14 +167,14 @@ module _ (in_order : LinesAreInOrder) (no_word : WordsStandInNoLine) (bytes : Li
         ∙ token-again bytes f.line.start f.line.tokens f.front f.after f.token here.2 f.in_line
 
     -- a word that comes once too often, at the place of the fault
-    executor_here : Told f.token.piece e n k kind → f.token.piece ≡ word executor_word → e ≡ 64 → text_rank k ≤ 4 → rank kind ≤ 1
+    executor_here : Answered f.token.piece e n k kind → f.token.piece ≡ word executor_word → e ≡ 64 → text_rank k ≤ 4 → rank kind ≤ 1
     executor_here (a_token is (no_token b t)) w full le = absurd (let no : bad ≡ word executor_word = sym b ∙ w in cc)
     executor_here (a_token is (one_executor x f t)) w full le = omega (arith, ap rank t)
     executor_here (a_token is (one_query x f t)) w full le = absurd (executor_not_query (let same : word executor_word ≡ word query_word = sym w ∙ x in cc))
     executor_here (a_token is (cant_come t b x q)) w full le = absurd (x w full)
     executor_here (as_it_is other t) w full le = absurd (other (word_first f.above (pieces f.front) (pieces f.after) executor_word k (subst (λ (p : Piece). Stands f.above (pieces f.front) p (pieces f.after) k) w f.stands) le))
 
-    query_here : Told f.token.piece e n k kind → f.token.piece ≡ word query_word → n ≡ 100000 → text_rank k ≤ 4 → rank kind ≤ 2
+    query_here : Answered f.token.piece e n k kind → f.token.piece ≡ word query_word → n ≡ 100000 → text_rank k ≤ 4 → rank kind ≤ 2
     query_here (a_token is (no_token b t)) w full le = absurd (let no : bad ≡ word query_word = sym b ∙ w in cc)
     query_here (a_token is (one_executor x f t)) w full le = omega (arith, ap rank t)
     query_here (a_token is (one_query x f t)) w full le = omega (arith, ap rank t)
@@ -207,7 +207,7 @@ module _ (in_order : LinesAreInOrder) (no_word : WordsStandInNoLine) (bytes : Li
         by_sort (inr (i, is, st)) =
             elim (first.least i s.token.from (in_text s.front s.after s.token s.in_line i st)) [
               | inl later ↦ inl (omega (arith, later, s.place))
-              | inr same ↦ inr (omega (arith, same.0, s.place), omega (arith, same.1, told-rank f.token.piece e n k kind way, ap rank is, session_rank i))
+              | inr same ↦ inr (omega (arith, same.0, s.place), omega (arith, same.1, answered-rank f.token.piece e n k kind way, ap rank is, session_rank i))
             ]
 
     from_start : HasFaultFrom (in_query [] e n) bytes at kind place
@@ -231,4 +231,4 @@ module _ (in_order : LinesAreInOrder) (no_word : WordsStandInNoLine) (bytes : Li
   fault-from = ap (λ (t : PlainToken). t.from) token_there ∙ sym f.place
 
   pub query_fault : HasFaultFrom (in_query [] e n) bytes at (query_refusal k (class_of (token_at bytes place).piece) e n) place
-  query_fault = from_start (query_refusal k (class_of (token_at bytes place).piece) e n) (subst (λ (p : Piece). Told f.token.piece e n k (query_refusal k (class_of p) e n)) (sym (ap (λ (t : PlainToken). t.piece) token_there)) (told k f.token.piece e n))
+  query_fault = from_start (query_refusal k (class_of (token_at bytes place).piece) e n) (subst (λ (p : Piece). Answered f.token.piece e n k (query_refusal k (class_of p) e n)) (sym (ap (λ (t : PlainToken). t.piece) token_there)) (answered k f.token.piece e n))

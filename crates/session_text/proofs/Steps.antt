@@ -25,7 +25,7 @@ use Rattle.session_text.proofs.WordLines.{between, between-no_query, between-exe
 use Rattle.session_text.proofs.Wholes.{second_refused, whole_fault}
 
 pub IsReadError-back : (bytes : List ℕ) (s t : Seen) (at to : ℕ) (e : ReadError) → Leads bytes s at t to → IsReadError t bytes to e → IsReadError s bytes at e
-IsReadError-back bytes s t at to errors.Memory l h = tt
+IsReadError-back bytes s t at to errors.NoMemory l h = tt
 IsReadError-back bytes s t at to (errors.Fault f) l h = l.back f.kind f.at h
 
 -- a fault of the text from a later place, between which and the first none stands
@@ -103,7 +103,7 @@ fault_on (Err f) bytes s t at to l h = l.back f.kind f.at h
 
 -- a fault behind the header is one of the whole text
 pub whole_error : (bytes : List ℕ) (at : ℕ) (e : ReadError) → IsHeader bytes (line_from bytes 0) → at ≡ body_of bytes → IsReadError nothing_seen bytes at e → IsSessionError bytes e
-whole_error bytes at errors.Memory header_is is h = tt
+whole_error bytes at errors.NoMemory header_is is h = tt
 whole_error bytes at (errors.Fault f) header_is is h = whole_fault bytes header_is f.kind f.at (subst (λ (m : ℕ). HasFaultFrom nothing_seen bytes m f.kind f.at) is h)
 
 pub whole_up : {X : Type 0} (r : Result X ReadError) (e : ReadError) (bytes : List ℕ) → IsErrAnd r (λ x. x ≡ e) → IsSessionError bytes e → IfErr r (IsSessionError bytes)

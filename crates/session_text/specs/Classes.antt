@@ -1,5 +1,6 @@
 -- What the reader sees of a token, and how it refuses one.
 use Rattle.std.specs.Prelude.{ℕ, ◌==◌, List, bytes_eq, if◌then◌else◌}
+use Rattle.lin_model.specs.declared.session.TheConstants.{MAX_EXECUTORS, MAX_QUERIES}
 use Rattle.lin_text.specs.declared.fault.TextKind.{TextKind}
 use Rattle.lin_text.specs.declared.fault.TextKind.TheVariants as texts
 use Rattle.lin_text.specs.declared.fault.SessionKind.{SessionKind}
@@ -23,8 +24,8 @@ class_of _ = Other
 
 -- the kind of the fault at a token that can't come next, before which the words came so often
 abbrev pub refusal_kind : Class → ℕ → ℕ → SessionKind
-refusal_kind Executor executors queries = if executors == 64 then kinds.TooManyExecutors else kinds.Syntax
-refusal_kind Query executors queries = if queries == 100000 then kinds.TooManyQueries else kinds.Syntax
+refusal_kind Executor executors queries = if executors == MAX_EXECUTORS then kinds.TooManyExecutors else kinds.Syntax
+refusal_kind Query executors queries = if queries == MAX_QUERIES then kinds.TooManyQueries else kinds.Syntax
 refusal_kind Bad executors queries = kinds.Token
 refusal_kind _ executors queries = kinds.Syntax
 

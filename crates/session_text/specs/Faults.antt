@@ -1,5 +1,6 @@
 -- The faults of a session's text: at which tokens each kind stands, and which fault is answered.
 use Rattle.std.specs.Prelude.{◌≡◌, ◌≢◌, ℕ, ◌+◌, ◌<◌, ◌≤◌, Bool, false, ◌⊎◌, List, [], ◌∷◌, ◌++◌, length, count_by, bytes_eq, Option, Some, None, MatchOption, if◌then◌else◌}
+use Rattle.lin_model.specs.declared.session.TheConstants.{MAX_EXECUTORS, MAX_QUERIES}
 use Rattle.lin_text.specs.declared.fault.TextKind.{TextKind}
 use Rattle.lin_text.specs.declared.fault.TextKind.TheVariants as texts
 use Rattle.lin_text.specs.declared.fault.SessionKind.{SessionKind}
@@ -91,11 +92,11 @@ session_kind texts.TooManyAtoms = TooManyAtoms
 session_kind texts.TooManyTerms = TooManyTerms
 session_kind texts.NoMemory = NoMemory
 
--- the token `p` is the 65th word `executor` or the 100,001st word `query`; these are the tokens before it on its line
+-- the token `p` is the 65th word `executor` or the 100,001st word `query`; `front` are the tokens before it on its line
 abbrev pub IsOneTooMany : Seen → List Piece → Piece → SessionKind → Type 0
 IsOneTooMany seen front p kind =
-    ((kind ≡ TooManyExecutors) × (p ≡ word executor_word) × (seen.executors + count_of executor_word front ≡ 64))
-    ⊎ ((kind ≡ TooManyQueries) × (p ≡ word query_word) × (seen.queries + count_of query_word front ≡ 100000))
+    ((kind ≡ TooManyExecutors) × (p ≡ word executor_word) × (seen.executors + count_of executor_word front ≡ MAX_EXECUTORS))
+    ⊎ ((kind ≡ TooManyQueries) × (p ≡ word query_word) × (seen.queries + count_of query_word front ≡ MAX_QUERIES))
 
 -- the token is none, or can't come next in a line of the session's own
 abbrev pub CantCome : Part → List Piece → Piece → SessionKind → Type 0
