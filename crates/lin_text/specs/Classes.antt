@@ -1,10 +1,13 @@
--- What the reader sees of a token: its class, which leaves out the bytes of a name and of a word, and how large a large number is.
+-- What the reader sees of a token: its class, which leaves out the bytes of a name and of a word, and how large a large
+-- number is.
 use Rattle.std.specs.Prelude.{◌+◌, min}
 use Rattle.lin_model.specs.declared.term.TheConstants.{MAX_CONSTANT}
 use Rattle.lin_text.specs.declared.class.Class.{Class}
-use Rattle.lin_text.specs.declared.class.Class.TheVariants.{Var, Word, Name, Number, Plus, Minus, Times, Compare, Bad, LineEnd}
+use Rattle.lin_text.specs.declared.class.Class.TheVariants.{Var, Word, Name, Number, Plus, Minus, Times, Compare, Bad}
+use Rattle.lin_text.specs.declared.class.Class.TheVariants.{LineEnd}
 use Rattle.lin_text.specs.declared.class.Lexeme.{Lexeme}
-use Rattle.lin_text.specs.Pieces.{Piece, var, word, name, number, plus, minus, times, compare, bad, line_end, PlainToken}
+use Rattle.lin_text.specs.Pieces.{Piece, var, word, name, number, plus, minus, times, compare, bad, line_end}
+use Rattle.lin_text.specs.Pieces.{PlainToken}
 
 -- the class of a token; a number beyond every limit is shown as 2^40 + 1
 abbrev pub class_of : Piece → Class

@@ -40,8 +40,10 @@ names_of = map (λ v. v.name)
 abbrev pub AreDeclaredAndCompared : List PlainVar → List PlainLine → List PlainVar → List Atom → Type 0
 AreDeclaredAndCompared above [] vars atoms = (vars ≡ []) × (atoms ≡ [])
 AreDeclaredAndCompared above (line ∷ lines) vars atoms =
-    ((v : PlainVar) × (more : List PlainVar) × (vars ≡ v ∷ more) × Declares (pieces line.tokens) v × AreDeclaredAndCompared (above ++ v ∷ []) lines more atoms)
-    ⊎ ((a : Atom) × (more : List Atom) × (atoms ≡ a ∷ more) × Compares (names_of above) (pieces line.tokens) a × AreDeclaredAndCompared above lines vars more)
+    ((v : PlainVar) × (more : List PlainVar) × (vars ≡ v ∷ more) × Declares (pieces line.tokens) v
+    × AreDeclaredAndCompared (above ++ v ∷ []) lines more atoms)
+    ⊎ ((a : Atom) × (more : List Atom) × (atoms ≡ a ∷ more) × Compares (names_of above) (pieces line.tokens) a
+    × AreDeclaredAndCompared above lines vars more)
 
 -- the lines of a query spell the condition
 pub record Spell (lines : List PlainLine) (q : PlainCondition) : Type 0 where

@@ -1,5 +1,7 @@
 -- What the reader answers for a part of a line: a value with the place behind it, or the first fault.
-use Rattle.std.specs.Prelude.{◌≡◌, ℕ, zero, suc, nat_lt, Bool, true, false, not, List, [], ◌∷◌, ◌++◌, ◌==◌, length, slice_range, bytes_eq, position, is_some, ℤ, pos, neg_ℤ, int_lt, Option, Some, None, Result, Ok, Err, if◌then◌else◌}
+use Rattle.std.specs.Prelude.{◌≡◌, ℕ, zero, suc, nat_lt, Bool, true, false, not, List, [], ◌∷◌, ◌++◌, ◌==◌, length}
+use Rattle.std.specs.Prelude.{slice_range, bytes_eq, position, is_some, ℤ, pos, neg_ℤ, int_lt, Option, Some, None}
+use Rattle.std.specs.Prelude.{Result, Ok, Err, if◌then◌else◌}
 use Rattle.lin_model.specs.Terms.{PlainTerm, PlainVar}
 use Rattle.lin_model.specs.Conditions.{PlainCondition}
 use Rattle.lin_model.specs.declared.atom.Atom.{Atom}
@@ -8,12 +10,14 @@ use Rattle.lin_model.specs.declared.condition.TheConstants.{MAX_VARS, MAX_ATOMS}
 use Rattle.lin_model.specs.declared.term.TheConstants.{MAX_FACTOR, MAX_CONSTANT, MAX_TERMS}
 use Rattle.lin_model.specs.declared.var.TheConstants.{MAX_BOUND}
 use Rattle.lin_text.specs.declared.fault.TextKind.{TextKind}
-use Rattle.lin_text.specs.declared.fault.TextKind.TheVariants.{Token, Syntax, NumberTooLarge, UnknownName, NameTwice, EmptyRange, TooManyVars, TooManyAtoms, TooManyTerms}
+use Rattle.lin_text.specs.declared.fault.TextKind.TheVariants.{Token, Syntax, NumberTooLarge, UnknownName, NameTwice}
+use Rattle.lin_text.specs.declared.fault.TextKind.TheVariants.{EmptyRange, TooManyVars, TooManyAtoms, TooManyTerms}
 use Rattle.lin_text.specs.declared.refusal.Fault.{Fault}
 use Rattle.lin_text.specs.declared.refusal.ReadError.{ReadError}
 use Rattle.lin_text.specs.declared.refusal.ReadError.TheVariants as errors
 use Rattle.lin_text.specs.declared.class.Class.{Class}
-use Rattle.lin_text.specs.declared.class.Class.TheVariants.{Var, Word, Name, Number, Plus, Minus, Times, Compare, Bad, LineEnd}
+use Rattle.lin_text.specs.declared.class.Class.TheVariants.{Var, Word, Name, Number, Plus, Minus, Times, Compare, Bad}
+use Rattle.lin_text.specs.declared.class.Class.TheVariants.{LineEnd}
 use Rattle.lin_text.specs.declared.class.Lexeme.{Lexeme}
 use Rattle.lin_text.specs.Pieces.{first_token}
 use Rattle.lin_text.specs.Classes.{shown}
@@ -82,7 +86,8 @@ number_in names bytes l = position (bytes_eq (slice_range bytes l.from l.to)) na
 unfoldable pub free_name_at : Bool → List ℕ → List (List ℕ) → ℕ → Result (ℕ × ℕ) Fault
 free_name_at p bytes names at =
     let l = lexeme_at p bytes at in
-    if is_name_class l.class then (if is_some (number_in names bytes l) then Err (fault_at NameTwice l.from) else Ok (l.from, l.to)) else Err (refusal l)
+    if is_name_class l.class then (if is_some (number_in names bytes l) then Err (fault_at NameTwice l.from) else Ok
+    (l.from, l.to)) else Err (refusal l)
 
 -- two bounds, the lower one first
 unfoldable pub range_at : Bool → List ℕ → ℕ → Result (ℤ × ℤ × ℕ) Fault
@@ -115,7 +120,8 @@ variable_by (Some v) l factor = Ok (record { factor = factor; var = Some v }, l.
 
 -- a factor on the variable that a token names
 unfoldable pub variable_of : List ℕ → List (List ℕ) → Lexeme → ℤ → Result (PlainTerm × ℕ) Fault
-variable_of bytes names l factor = if is_name_class l.class then variable_by (number_in names bytes l) l factor else Err (refusal l)
+variable_of bytes names l factor =
+    if is_name_class l.class then variable_by (number_in names bytes l) l factor else Err (refusal l)
 
 -- a `*`
 abbrev pub is_times : Class → Bool
@@ -127,8 +133,10 @@ unfoldable pub number_at : Bool → List ℕ → List (List ℕ) → Bool → Le
 number_at p bytes names negative l n =
     let next = lexeme_at p bytes l.to in
     if is_times next.class
-    then (if nat_lt MAX_FACTOR n then Err (fault_at NumberTooLarge l.from) else variable_of bytes names (lexeme_at p bytes next.to) (signed negative n))
-    else (if nat_lt MAX_CONSTANT n then Err (fault_at NumberTooLarge l.from) else Ok (record { factor = signed negative n; var = None }, l.to))
+    then (if nat_lt MAX_FACTOR n then Err (fault_at NumberTooLarge l.from) else variable_of bytes names
+    (lexeme_at p bytes next.to) (signed negative n))
+    else (if nat_lt MAX_CONSTANT n then Err (fault_at NumberTooLarge l.from) else Ok
+    (record { factor = signed negative n; var = None }, l.to))
 
 -- an item without the minus of its own, by the class of its first token
 abbrev pub quantity_by : Class → Bool → List ℕ → List (List ℕ) → Bool → Lexeme → Result (PlainTerm × ℕ) Fault
@@ -144,7 +152,8 @@ quantity_at p bytes names negative l = quantity_by l.class p bytes names negativ
 unfoldable pub item_at : Bool → List ℕ → List (List ℕ) → Bool → ℕ → Result (PlainTerm × ℕ) Fault
 item_at p bytes names subtracted at =
     let l = lexeme_at p bytes at in
-    if is_minus l.class then quantity_at p bytes names (not subtracted) (lexeme_at p bytes l.to) else quantity_at p bytes names subtracted l
+    if is_minus l.class then quantity_at p bytes names (not subtracted)
+    (lexeme_at p bytes l.to) else quantity_at p bytes names subtracted l
 
 -- a token with which an item begins
 abbrev pub begins_item_class : Class → Bool
@@ -197,7 +206,8 @@ atom_at p bytes names at =
 
 -- a variable that a line declares behind the word `var`
 unfoldable pub variable_at : Bool → List ℕ → List (List ℕ) → ℕ → Result PlainVar Fault
-variable_at p bytes names at = declaration_at p bytes names at >>= λ d. Ok (record { name = slice_range bytes d.0 d.1; lo = d.2; hi = d.3 })
+variable_at p bytes names at =
+    declaration_at p bytes names at >>= λ d. Ok (record { name = slice_range bytes d.0 d.1; lo = d.2; hi = d.3 })
 
 -- the word `var`
 abbrev pub is_var_class : Class → Bool
@@ -235,4 +245,5 @@ atom_line_at p bytes q first start =
 
 -- what is declared and compared with one line more, which begins with the token
 unfoldable pub line_at : Bool → List ℕ → PlainCondition → Lexeme → ℕ → Result PlainCondition Fault
-line_at p bytes q first start = if is_var_class first.class then var_line_at p bytes q first else atom_line_at p bytes q first start
+line_at p bytes q first start =
+    if is_var_class first.class then var_line_at p bytes q first else atom_line_at p bytes q first start

@@ -1,7 +1,8 @@
 //! What a token is for the grammar: which word, which sign, which number.
 ghost use Rattle.std.specs.Prelude.{◌≡◌, ◌≤◌, ◌+◌, min, length, slice_range, bytes_eq};
 ghost use Rattle.lin_model.specs.Names.{IsName};
-ghost use Rattle.lin_text.specs.Pieces.{number_of, piece_of, comparison_of, name_piece, symbol_piece, is_word, is_claim_word, first_token};
+ghost use Rattle.lin_text.specs.Pieces.{number_of, piece_of, comparison_of, name_piece, symbol_piece, is_word};
+ghost use Rattle.lin_text.specs.Pieces.{is_claim_word, first_token};
 ghost use Rattle.lin_text.specs.Classes.{class_of, shown};
 
 use crate::token::{TokenKind, next_token};

@@ -1,7 +1,8 @@
 //! A line that declares a variable: its name and its bounds.
 ghost use Rattle.std.specs.Prelude.{◌≡◌, ◌≤◌, length, slice_range, position, bytes_eq, None, IfOk, pos, neg_ℤ, ◌≤ℤ◌};
 ghost use Rattle.lin_model.specs.Names.{IsName};
-ghost use Rattle.lin_text.specs.Reading.{bound_of, integer_at, free_name_at, range_at, end_at, declaration_at, variable_at, Gives};
+ghost use Rattle.lin_text.specs.Reading.{bound_of, integer_at, free_name_at, range_at, end_at, declaration_at};
+ghost use Rattle.lin_text.specs.Reading.{variable_at, Gives};
 
 use crate::class::{Class, Lexeme, next_lexeme};
 use crate::fault::TextKind;

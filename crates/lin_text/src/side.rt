@@ -2,7 +2,8 @@
 ghost use Rattle.std.specs.Prelude.{◌≡◌, ◌≤◌, length, not, IfOk, pos, neg_ℤ, ◌≤ℤ◌, ℤ};
 ghost use Rattle.lin_model.specs.Terms.{TermFits};
 ghost use Rattle.lin_text.specs.Grammar.{signed};
-ghost use Rattle.lin_text.specs.Reading.{Gives, variable_of, number_at, quantity_at, item_at, full_at, is_joint, is_minus, side_at, comparison_at, atom_at, begins_item_class};
+ghost use Rattle.lin_text.specs.Reading.{Gives, variable_of, number_at, quantity_at, item_at, full_at, is_joint};
+ghost use Rattle.lin_text.specs.Reading.{is_minus, side_at, comparison_at, atom_at, begins_item_class};
 
 use crate::class::{Class, Lexeme, next_lexeme};
 use crate::declaration::read_end;
