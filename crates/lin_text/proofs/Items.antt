@@ -11,7 +11,7 @@ use Rattle.lin_text.specs.Grammar.{item_pieces, signed, IsTerm}
 use Rattle.lin_text.specs.Faults.{declared_names}
 use Rattle.lin_text.specs.Reading.{lexeme_at, is_minus, is_times, is_name_class}
 use Rattle.lin_text.specs.Reading.{quantity_at, item_at}
-use Rattle.lin_text.proofs.Places.{Place, item, size, after, factor, next}
+use Rattle.lin_text.proofs.Places.{Place, item, size, after, next}
 use Rattle.lin_text.proofs.Passing.{At, At-next, IsRoom}
 use Rattle.lin_text.proofs.Passing.{sign_passed}
 use Rattle.lin_text.proofs.Outcomes.{Token, token_of, Gets-one, Outcome, Outcome-after}

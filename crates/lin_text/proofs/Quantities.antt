@@ -15,7 +15,7 @@ use Rattle.lin_text.specs.Grammar.{signed, IsOn}
 use Rattle.lin_text.specs.Faults.{IsTooLarge, begins_times, begins_variable, declared_names}
 use Rattle.lin_text.specs.Reading.{lexeme_at, fault_at, refusal, refusal_kind, is_times, is_name_class}
 use Rattle.lin_text.specs.Reading.{number_in, variable_by, variable_of, number_at, quantity_by, quantity_at}
-use Rattle.lin_text.proofs.Places.{Place, item, size, after, factor, next}
+use Rattle.lin_text.proofs.Places.{Place, size, after, factor, next}
 use Rattle.lin_text.proofs.Passing.{At, At-next, IsRoom, NoFault, not-nil, refused, small_rank, name_rank, passed}
 use Rattle.lin_text.proofs.Passing.{sign_passed}
 use Rattle.lin_text.proofs.Outcomes.{Token, token_of, Gets, Gets-one, Fails, Fails-one, Outcome, Outcome-after}

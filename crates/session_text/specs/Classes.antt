@@ -13,7 +13,8 @@ use Rattle.session_text.specs.Faults.{session_kind}
 
 -- the class of a reserved word
 abbrev pub class_of_word : List ℕ → Class
-class_of_word w = if bytes_eq w executor_word then Executor else (if bytes_eq w query_word then Query else (if bytes_eq w end_word then End else Other))
+class_of_word w = if bytes_eq w executor_word then Executor else
+    (if bytes_eq w query_word then Query else (if bytes_eq w end_word then End else Other))
 
 -- the class of a token
 abbrev pub class_of : Piece → Class
@@ -29,7 +30,8 @@ refusal_kind Query executors queries = if queries == MAX_QUERIES then kinds.TooM
 refusal_kind Bad executors queries = kinds.Token
 refusal_kind _ executors queries = kinds.Syntax
 
--- the kind of a fault in a query's text, at a token of this class: where the token can't come, it may be the word that comes once too often
+-- the kind of a fault in a query's text, at a token of this class: where the token can't come, it may be the word that
+-- comes once too often
 abbrev pub query_refusal : TextKind → Class → ℕ → ℕ → SessionKind
 query_refusal texts.Syntax class executors queries = refusal_kind class executors queries
 query_refusal kind class executors queries = session_kind kind

@@ -20,7 +20,8 @@ use std::alloc::Global;
 /// that comes once too often; the words came so often before the query's lines.
 fn query_fault(bytes: &[u8], fault: lin_text::Fault, counts: Counts) -> Fault
     requires { fault.at ≤ length bytes.now }
-    ensures kind { result.kind ≡ query_refusal fault.kind (class_of (token_at bytes.now fault.at).piece) counts.executors counts.queries }
+    ensures kind { result.kind
+        ≡ query_refusal fault.kind (class_of (token_at bytes.now fault.at).piece) counts.executors counts.queries }
     ensures place { (token_at bytes.now fault.at).from ≡ fault.at → result.at ≡ fault.at }
 {
     match fault.kind {

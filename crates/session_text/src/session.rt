@@ -161,9 +161,9 @@ fn read_whole(alloc: Global, bytes: &[u8]) -> Result<Session, ReadError>
 /// with blanks alone and lines that begin with `#` are skipped. A session is answered only where nothing
 /// of the input is left.
 ///
-/// The fault at the least place is answered, with its line and its column from the input's start; at one
-/// place the one that goes first: `BadHeader`, `TooManyExecutors`, `TooManyQueries`, the kinds of
-/// `TextKind` as `read_query` orders them, `NoEnd`. Where memory runs out, `NoMemory` is answered, with line and column 0.
+/// The fault at the least place is answered, with its line and its column from the input's start; at one place the one
+/// that goes first: `BadHeader`, `TooManyExecutors`, `TooManyQueries`, the kinds of `TextKind` as `read_query` orders
+/// them, `NoEnd`. Where memory runs out, `NoMemory` is answered, with line and column 0.
 pub fn read_session(alloc: Global, bytes: &[u8]) -> Result<Session, SessionFault>
     ensures read { IfOk result (SpellsSession bytes.now) }
     ensures fault { IfErr result (IsFault bytes.now) }
