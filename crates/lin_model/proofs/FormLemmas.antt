@@ -37,12 +37,18 @@ form_value-rest form point i d lt = ap (λ f. form_value f point) (drop_more for
 -- each variable is below the width
 pub form_width-above : (form : List FormTerm) → All (λ t. t.var < form_width form) form
 form_width-above [] = All-nil (λ t. t.var < form_width [])
-form_width-above (t ∷ ts) = All-cons (λ u. u.var < max (suc t.var) (form_width ts)) t ts (omega arith) (All-weaker (λ u. u.var < form_width ts) (λ u. u.var < max (suc t.var) (form_width ts)) (λ u h. omega arith) ts (form_width-above ts))
+form_width-above (t ∷ ts) = All-cons (λ u. u.var < max (suc t.var) (form_width ts)) t ts (omega arith)
+    (All-weaker (λ u. u.var < form_width ts) (λ u. u.var < max (suc t.var) (form_width ts)) (λ u h. omega arith) ts
+    (form_width-above ts))
 
 -- a variable of the form is below whatever the width is at most
-pub variable_below : (form : List FormTerm) (n i : ℕ) (d : FormTerm) → i < length form → form_width form ≤ n → (get_or form i d).var < n
+pub variable_below : (form : List FormTerm) (n i : ℕ) (d : FormTerm) → i < length form → form_width form ≤ n
+    → (get_or form i d).var < n
 variable_below form n i d lt wide = omega (arith, form_width-above form i d lt)
 
 -- one more term of a sum, whose size is at most 2^72 a term
-pub value_step : (form : List FormTerm) (point : List ℤ) (i : ℕ) (d : FormTerm) (sum product whole : ℤ) → i < length form → product ≡ (get_or form i d).coef *ℤ value_at point (get_or form i d).var → sum +ℤ form_value (drop i form) point ≡ whole → (sum +ℤ product) +ℤ form_value (drop (i + 1) form) point ≡ whole
-value_step form point i d sum product whole lt is before = omega (arith, ints, form_value-rest form point i d lt, is, before)
+pub value_step : (form : List FormTerm) (point : List ℤ) (i : ℕ) (d : FormTerm) (sum product whole : ℤ)
+    → i < length form → product ≡ (get_or form i d).coef *ℤ value_at point (get_or form i d).var
+    → sum +ℤ form_value (drop i form) point ≡ whole → (sum +ℤ product) +ℤ form_value (drop (i + 1) form) point ≡ whole
+value_step form point i d sum product whole lt is before =
+    omega (arith, ints, form_value-rest form point i d lt, is, before)

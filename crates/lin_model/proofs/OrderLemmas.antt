@@ -4,7 +4,8 @@ use Rattle.std.specs.declared.cmp.Ordering.{Ordering}
 use Rattle.std.specs.declared.cmp.Ordering.TheVariants.{Less, Equal, Greater}
 use Rattle.std.specs.Ordering.{ordering_then, nat_cmp, int_cmp}
 use Rattle.std.specs.Cmp.{IsTotalOrder}
-use Rattle.std.specs.FinSet.{IsAntisymmetric, nat_cmp-IsAntisymmetric, int_cmp-IsAntisymmetric, slice_cmp-IsAntisymmetric}
+use Rattle.std.specs.FinSet.{IsAntisymmetric, nat_cmp-IsAntisymmetric, int_cmp-IsAntisymmetric}
+use Rattle.std.specs.FinSet.{slice_cmp-IsAntisymmetric}
 use Rattle.std.proofs.lemmas.Cmp.{nat_cmp_total, int_cmp_total, on_total, then_total, lists_total}
 use Rattle.lin_model.specs.declared.form.FormTerm.{FormTerm}
 use Rattle.lin_model.specs.declared.op.Op.{Op}
@@ -46,7 +47,8 @@ compare_terms-apart t u e =
 
 pub compare_atoms-apart : TellsAtomsApart
 compare_atoms-apart a b e =
-    let two = both_equal (compare_forms a.form b.form) (ordering_then (nat_cmp (code_of a.op) (code_of b.op)) (int_cmp a.constant b.constant)) e in
+    let two = both_equal (compare_forms a.form b.form)
+    (ordering_then (nat_cmp (code_of a.op) (code_of b.op)) (int_cmp a.constant b.constant)) e in
     let rest = both_equal (nat_cmp (code_of a.op) (code_of b.op)) (int_cmp a.constant b.constant) two.1 in
     let form : a.form ≡ b.form = slice_cmp-IsAntisymmetric compare_terms-apart a.form b.form two.0 in
     let op : a.op ≡ b.op = code_of-apart a.op b.op (nat_cmp-IsAntisymmetric (code_of a.op) (code_of b.op) rest.0) in
@@ -55,4 +57,8 @@ compare_atoms-apart a b e =
 
 pub compare_atoms-total : IsTotalOrder compare_atoms
 compare_atoms-total =
-    then_total (on_total (λ (a : PlainKeyAtom). a.form) (lists_total (then_total (on_total (λ (t : FormTerm). t.var) nat_cmp_total) (on_total (λ (t : FormTerm). t.coef) int_cmp_total)))) (then_total (on_total (λ (a : PlainKeyAtom). code_of a.op) nat_cmp_total) (on_total (λ (a : PlainKeyAtom). a.constant) int_cmp_total))
+    then_total (on_total (λ (a : PlainKeyAtom). a.form)
+    (lists_total (then_total (on_total (λ (t : FormTerm). t.var) nat_cmp_total)
+    (on_total (λ (t : FormTerm). t.coef) int_cmp_total))))
+    (then_total (on_total (λ (a : PlainKeyAtom). code_of a.op) nat_cmp_total)
+    (on_total (λ (a : PlainKeyAtom). a.constant) int_cmp_total))

@@ -14,7 +14,8 @@ Decides-same_term t u = (
       let both = and_parts (nat_eq t.var u.var) (int_eq t.coef u.coef) so in
       let var : t.var ≡ u.var = (Decides-eqb t.var u.var).0 both.0 in
       let coef : t.coef ≡ u.coef = (Decides-int_eq t.coef u.coef).0 both.1 in
-      ap (λ (v : ℕ). let x : FormTerm = record { var = v; coef = t.coef } in x) var ∙ ap (λ (z : ℤ). let x : FormTerm = record { var = u.var; coef = z } in x) coef,
+      ap (λ (v : ℕ). let x : FormTerm = record { var = v; coef = t.coef } in x) var
+      ∙ ap (λ (z : ℤ). let x : FormTerm = record { var = u.var; coef = z } in x) coef,
   λ e.
       let var = (Decides-eqb t.var u.var).1 (ap (λ (x : FormTerm). x.var) e) in
       let coef = (Decides-int_eq t.coef u.coef).1 (ap (λ (x : FormTerm). x.coef) e) in

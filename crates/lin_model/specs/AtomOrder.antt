@@ -19,13 +19,15 @@ compare_forms = slice_cmp compare_terms
 
 -- atoms by form, then by the code of the op, then by constant
 abbrev pub compare_atoms : PlainKeyAtom → PlainKeyAtom → Ordering
-compare_atoms = then_cmp (on (λ a. a.form) compare_forms) (then_cmp (on (λ a. code_of a.op) nat_cmp) (on (λ a. a.constant) int_cmp))
+compare_atoms =
+    then_cmp (on (λ a. a.form) compare_forms) (then_cmp (on (λ a. code_of a.op) nat_cmp) (on (λ a. a.constant) int_cmp))
 
 -- atoms are equal in the order only where they are the same
 abbrev pub TellsAtomsApart : Type 0
 TellsAtomsApart = (a b : PlainKeyAtom) → compare_atoms a b ≡ Equal → a ≡ b
 
--- exactly one of two atoms comes first unless they are the same, and what comes before an atom comes before all that follow it
+-- exactly one of two atoms comes first unless they are the same, and what comes before an atom comes before all that
+-- follow it
 pub record IsAtomOrder : Type 0 where
   pub total : IsTotalOrder compare_atoms
   pub apart : TellsAtomsApart

@@ -3,6 +3,8 @@ use Rattle.std.specs.Prelude.{◌≢◌, ℕ, ◌<◌, ◌≤◌, List, length, 
 use Rattle.lin_model.specs.Terms.{PlainVar, PlainTerm, VarFits, ExprFits, TermFits}
 use Rattle.lin_model.specs.Truth.{AtomHolds, IsAssignment}
 use Rattle.lin_model.specs.declared.atom.Atom.{Atom}
+use Rattle.lin_model.specs.declared.condition.TheConstants.{MAX_VARS, MAX_ATOMS}
+use Rattle.lin_model.specs.declared.session.TheConstants.{MAX_EXECUTORS, MAX_QUERIES}
 
 -- the variables and the atoms of a condition, all of which have to hold
 pub record PlainCondition : Type 0 where
@@ -24,8 +26,8 @@ Differ a b = a.name ≢ b.name
 
 -- these make a condition: at most 64 variables of distinct names, at most 256 atoms, and no variable that isn't there
 pub record Fits (vars : List PlainVar) (atoms : List Atom) : Type 0 where
-  pub few_vars : length vars ≤ 64
-  pub few_atoms : length atoms ≤ 256
+  pub few_vars : length vars ≤ MAX_VARS
+  pub few_atoms : length atoms ≤ MAX_ATOMS
   pub distinct : AllPairs Differ vars
   pub in_range : All (AtomNamesBelow (length vars)) atoms
 
@@ -53,5 +55,5 @@ IsSatisfiable q = (values : List ℤ) × Holds q values
 
 -- the conditions that each executor asks, at most 64 executors and 100,000 conditions in all
 pub record IsSession (executors : List (List PlainCondition)) : Type 0 where
-  pub few_executors : length executors ≤ 64
-  pub few_queries : sum_by length executors ≤ 100000
+  pub few_executors : length executors ≤ MAX_EXECUTORS
+  pub few_queries : sum_by length executors ≤ MAX_QUERIES

@@ -5,6 +5,7 @@ use Rattle.std.proofs.lemmas.Nat.Gcd.{dvd_antisymm, dvd-zero}
 use Rattle.std.proofs.lemmas.List.Elements.{All-nil, All-cons, All-weaker}
 use Rattle.lin_model.specs.declared.atom.Atom.{Atom}
 use Rattle.lin_model.specs.declared.form.FormTerm.{FormTerm}
+use Rattle.lin_model.specs.declared.key_atom.TheConstants.{MAX_KEY_VARS}
 use Rattle.lin_model.specs.Terms.{PlainTerm}
 use Rattle.lin_model.specs.Conditions.{NamesBelow, AtomNamesBelow}
 use Rattle.lin_model.specs.Form.{IsGcdOf, form_width}
@@ -41,18 +42,25 @@ same_from_IsGcdOf form g h a b = dvd_antisymm (b.greatest g a.divides) (a.greate
 -- no form is wider than the key
 pub key_width-above : (atoms : List PlainKeyAtom) → All (λ a. form_width a.form ≤ key_width atoms) atoms
 key_width-above [] = All-nil (λ a. form_width a.form ≤ 0)
-key_width-above (a ∷ atoms) = All-cons (λ b. form_width b.form ≤ max (form_width a.form) (key_width atoms)) a atoms (omega arith) (All-weaker (λ b. form_width b.form ≤ key_width atoms) (λ b. form_width b.form ≤ max (form_width a.form) (key_width atoms)) (λ b h. omega arith) atoms (key_width-above atoms))
+key_width-above (a ∷ atoms) = All-cons (λ b. form_width b.form ≤ max (form_width a.form) (key_width atoms)) a atoms
+    (omega arith) (All-weaker (λ b. form_width b.form ≤ key_width atoms)
+    (λ b. form_width b.form ≤ max (form_width a.form) (key_width atoms)) (λ b h. omega arith) atoms
+    (key_width-above atoms))
 
--- a form of variables below 64 is no wider than 64
-form-narrow : (form : List FormTerm) → All (λ t. t.var < 64) form → form_width form ≤ 64
+-- a form of variables of keys is no wider than a key may be
+form-narrow : (form : List FormTerm) → All (λ t. t.var < MAX_KEY_VARS) form → form_width form ≤ MAX_KEY_VARS
 form-narrow [] h = omega arith
 form-narrow (t ∷ ts) h = omega (arith, h 0 t (omega arith), form-narrow ts (λ k d lt. h (suc k) d (omega arith)))
 
 -- nor are canonical atoms
-atoms-narrow : (atoms : List PlainKeyAtom) → All IsCanonical atoms → key_width atoms ≤ 64
+atoms-narrow : (atoms : List PlainKeyAtom) → All IsCanonical atoms → key_width atoms ≤ MAX_KEY_VARS
 atoms-narrow [] h = omega arith
-atoms-narrow (a ∷ atoms) h = omega (arith, form-narrow a.form (h 0 a (omega arith)).form.variables.in_range, atoms-narrow atoms (λ k d lt. h (suc k) d (omega arith)))
+atoms-narrow (a ∷ atoms) h = omega (
+  arith,
+  form-narrow a.form (h 0 a (omega arith)).form.variables.in_range,
+  atoms-narrow atoms (λ k d lt. h (suc k) d (omega arith)),
+)
 
--- a key has at most 64 variables
-pub key-narrow : (key : List PlainKeyAtom) → IsKey key → key_width key ≤ 64
+-- nor is a key
+pub key-narrow : (key : List PlainKeyAtom) → IsKey key → key_width key ≤ MAX_KEY_VARS
 key-narrow key h = atoms-narrow key h.canonical

@@ -1,4 +1,5 @@
--- Laws of products of integers, and that a factor keeps the order or turns it. They say nothing of this crate: the proofs of crates above use them.
+-- Laws of products of integers, and that a factor keeps the order or turns it. They say nothing of this crate: the
+-- proofs of crates above use them.
 use Rattle.std.proofs.Common.{◌≡◌, ℕ, suc, ◌*◌, ℤ, pos, negsuc, ◌+ℤ◌, ◌*ℤ◌, ◌≤ℤ◌, arith, ap}
 use Rattle.std.proofs.Math.Nat.{mul-le-mul_left}
 use Rattle.std.proofs.lemmas.Int.{ints}
@@ -17,7 +18,18 @@ distrib_left a b c =
 -- three factors
 pub times_assoc : (a b c : ℤ) → (a *ℤ b) *ℤ c ≡ a *ℤ (b *ℤ c)
 times_assoc a b c =
-    omega (arith, ints, ap (λ (x : ℕ). x * up c) (product_is a b).0, ap (λ (x : ℕ). x * down c) (product_is a b).0, ap (λ (x : ℕ). x * up c) (product_is a b).1, ap (λ (x : ℕ). x * down c) (product_is a b).1, ap (λ (x : ℕ). up a * x) (product_is b c).0, ap (λ (x : ℕ). down a * x) (product_is b c).0, ap (λ (x : ℕ). up a * x) (product_is b c).1, ap (λ (x : ℕ). down a * x) (product_is b c).1)
+    omega (
+      arith,
+      ints,
+      ap (λ (x : ℕ). x * up c) (product_is a b).0,
+      ap (λ (x : ℕ). x * down c) (product_is a b).0,
+      ap (λ (x : ℕ). x * up c) (product_is a b).1,
+      ap (λ (x : ℕ). x * down c) (product_is a b).1,
+      ap (λ (x : ℕ). up a * x) (product_is b c).0,
+      ap (λ (x : ℕ). down a * x) (product_is b c).0,
+      ap (λ (x : ℕ). up a * x) (product_is b c).1,
+      ap (λ (x : ℕ). down a * x) (product_is b c).1,
+    )
 
 -- a factor that isn't negative keeps the order
 pub scale_up : (n : ℕ) (x y : ℤ) → x ≤ℤ y → (pos n *ℤ x) ≤ℤ (pos n *ℤ y)

@@ -2,6 +2,7 @@
 use Rattle.std.specs.Prelude.{◌≡◌, ℕ, ◌≤◌, max, ℤ, List, [], ◌∷◌, length}
 use Rattle.std.specs.List.{All, AllAdjacentBelow}
 use Rattle.std.specs.declared.cmp.Ordering.TheVariants.{Less}
+use Rattle.lin_model.specs.declared.key.TheConstants.{MAX_KEY_ATOMS}
 use Rattle.lin_model.specs.Form.{form_width}
 use Rattle.lin_model.specs.KeyAtom.{PlainKeyAtom, IsCanonical, KeyAtomHolds}
 use Rattle.lin_model.specs.AtomOrder.{compare_atoms}
@@ -13,7 +14,7 @@ Ascends atoms = AllAdjacentBelow (λ a b. compare_atoms a b ≡ Less) atoms (len
 -- a list of atoms that may be a key, if its atoms are canonical
 pub record FitsKey (atoms : List PlainKeyAtom) : Type 0 where
   pub ascends : Ascends atoms
-  pub few : length atoms ≤ 384
+  pub few : length atoms ≤ MAX_KEY_ATOMS
 
 -- a list of atoms that is a key: at most 384 canonical ones, each before the next
 pub record IsKey (atoms : List PlainKeyAtom) : Type 0 where

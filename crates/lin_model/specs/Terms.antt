@@ -1,5 +1,8 @@
 -- Variables and terms as plain data, what a side is worth, and the limits of numbers.
-use Rattle.std.specs.Prelude.{ℕ, ◌^◌, ◌≤◌, List, [], ◌∷◌, length, ℤ, pos, neg_ℤ, ◌+ℤ◌, ◌*ℤ◌, ◌≤ℤ◌, unsigned_abs, Option, Some, None}
+use Rattle.std.specs.Prelude.{ℕ, ◌≤◌, List, [], ◌∷◌, length, ℤ, pos, neg_ℤ, ◌+ℤ◌, ◌*ℤ◌, ◌≤ℤ◌, unsigned_abs, Option}
+use Rattle.std.specs.Prelude.{Some, None}
+use Rattle.lin_model.specs.declared.term.TheConstants.{MAX_FACTOR, MAX_CONSTANT, MAX_TERMS}
+use Rattle.lin_model.specs.declared.var.TheConstants.{MAX_BOUND}
 use Rattle.lin_model.specs.Names.{IsName}
 pub use Rattle.lin_model.specs.Form.{value_at}
 
@@ -28,10 +31,10 @@ abbrev pub value_of : List PlainTerm → List ℤ → ℤ
 value_of [] values = pos 0
 value_of (term ∷ terms) values = term_value term values +ℤ value_of terms values
 
--- the size of a factor, and of a constant
+-- the greatest size of a constant, and of a factor
 abbrev pub limit_of : Option ℕ → ℕ
-limit_of None = 2 ^ 40
-limit_of (Some var) = 2 ^ 31
+limit_of None = MAX_CONSTANT
+limit_of (Some var) = MAX_FACTOR
 
 -- no factor and no constant is larger than that
 abbrev pub TermFits : PlainTerm → Type 0
@@ -40,11 +43,11 @@ TermFits term = unsigned_abs term.factor ≤ limit_of term.var
 -- bounds in order, of at most 2^31 in size, and a name
 pub record VarFits (var : PlainVar) : Type 0 where
   pub name : IsName var.name
-  pub low : neg_ℤ (pos (2 ^ 31)) ≤ℤ var.lo
+  pub low : neg_ℤ (pos MAX_BOUND) ≤ℤ var.lo
   pub order : var.lo ≤ℤ var.hi
-  pub high : var.hi ≤ℤ pos (2 ^ 31)
+  pub high : var.hi ≤ℤ pos MAX_BOUND
 
 -- a side has 1 to 64 terms
 pub record ExprFits (terms : List PlainTerm) : Type 0 where
   pub some : 1 ≤ length terms
-  pub few : length terms ≤ 64
+  pub few : length terms ≤ MAX_TERMS

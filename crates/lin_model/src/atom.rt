@@ -1,9 +1,10 @@
 //! Comparisons as they are written.
 
-ghost use Rattle.std.specs.Prelude.{◌↔◌, IsTrue};
+ghost use Rattle.std.specs.Prelude.{◌≡◌, ◌↔◌, IsTrue};
 ghost use Rattle.lin_model.specs.Truth.{AtomHolds, Compares};
 
 use crate::term::Expr;
+use std::alloc::AllocError;
 
 /// How the two sides of an atom are compared.
 #[derive(Clone, Copy, Debug, PartialEq, Eq)]
@@ -46,6 +47,21 @@ impl Cmp {
             Cmp::Eq => left == right,
             Cmp::Ne => left != right,
         }
+    }
+}
+
+impl Clone for Atom {
+    /// A copy equals what it was made of.
+    ghost is_clone = { λ atom copy. copy ≡ atom };
+
+    fn clone(&self) -> Result<Atom, AllocError> {
+        let left = self.left.clone()?;
+        let right = self.right.clone()?;
+        Ok(Atom {
+            left,
+            cmp: self.cmp,
+            right,
+        })
     }
 }
 

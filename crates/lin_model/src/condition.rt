@@ -3,11 +3,13 @@
 ghost use Rattle.std.specs.Prelude.{◌≡◌, ◌↔◌, ◌<◌, ℕ, IsTrue, All, length, IfSome, Contains};
 ghost use Rattle.lin_model.specs.Terms.{PlainVar};
 ghost use Rattle.lin_model.specs.Truth.{AtomHolds, IsAssignment};
-ghost use Rattle.lin_model.specs.Conditions.{Fits, Holds, PlainCondition, NamesBelow, AtomNamesBelow};
+ghost use Rattle.lin_model.specs.Conditions.{Fits, IsCondition, Holds, PlainCondition, NamesBelow, AtomNamesBelow};
 
 use crate::atom::Atom;
+use crate::limits::{atoms_keep_limits, vars_keep_limits};
 use crate::term::Term;
 use crate::var::Var;
+use std::alloc::AllocError;
 use std::marker::Model;
 
 /// The most variables that a condition has.
@@ -32,6 +34,17 @@ impl Model for Condition {
     ghost view = { λ q. record { vars = q.vars.items; atoms = q.atoms.items } };
 
     ghost invariant = { λ q. Fits q.vars.items q.atoms.items };
+}
+
+impl Clone for Condition {
+    /// A copy equals what it was made of.
+    ghost is_clone = { λ condition copy. copy ≡ condition };
+
+    fn clone(&self) -> Result<Condition, AllocError> {
+        let vars = self.vars.clone()?;
+        let atoms = self.atoms.clone()?;
+        Ok(Condition { vars, atoms })
+    }
 }
 
 impl Condition {
@@ -68,6 +81,14 @@ impl Condition {
             return false;
         }
         atoms_hold(self.atoms(), values)
+    }
+
+    /// The law that a condition keeps all its limits: those of `fits`, and those of each variable, side and term.
+    pub fn keeps_limits(&self)
+        ensures { IsCondition self.now }
+    {
+        vars_keep_limits(self.vars());
+        atoms_keep_limits(self.atoms());
     }
 }
 

@@ -2,6 +2,7 @@
 
 ghost use Rattle.std.specs.Prelude.{◌≡◌, ◌↔◌, IsTrue};
 
+use std::alloc::AllocError;
 use std::marker::Model;
 
 /// One term of a form: a multiple of a variable.
@@ -13,7 +14,8 @@ pub struct FormTerm {
     pub coef: i64,
 }
 
-/// The left side of an atom, as a list of terms in any order. What a canonical form keeps besides is asked by `KeyAtom::new`.
+/// The left side of an atom, as a list of terms in any order. What a canonical form keeps besides is asked by
+/// `KeyAtom::new`.
 #[derive(Debug, Drop)]
 pub struct Form {
     terms: Vec<FormTerm>,
@@ -26,6 +28,17 @@ impl Model for Form {
     ghost Value = { List FormTerm };
 
     ghost view = { λ f. f.terms.items };
+}
+
+impl Clone for Form {
+    /// A copy equals what it was made of.
+    ghost is_clone = { λ form copy. copy ≡ form };
+
+    fn clone(&self) -> Result<Form, AllocError> {
+        Ok(Form {
+            terms: self.terms.clone()?,
+        })
+    }
 }
 
 impl Form {

@@ -1,11 +1,12 @@
-//! Which variables and atoms make a condition.
+//! Which variables and atoms make a condition, and the limits that each keeps.
 
 ghost use Rattle.std.specs.Prelude.{◌≡◌, ◌≢◌, ◌↔◌, ◌<◌, ℕ, IsTrue, All, AllPairs, IfSome};
-ghost use Rattle.lin_model.specs.Conditions.{Fits, NamesBelow, AtomNamesBelow, Differ};
+ghost use Rattle.lin_model.specs.Terms.{VarFits, TermFits, ExprFits};
+ghost use Rattle.lin_model.specs.Conditions.{Fits, NamesBelow, AtomNamesBelow, Differ, AtomFits};
 
 use crate::atom::Atom;
 use crate::condition::{MAX_ATOMS, MAX_VARS};
-use crate::term::Term;
+use crate::term::{Expr, Term};
 use crate::var::Var;
 
 /// Whether these make a condition: at most 64 variables of distinct names, at most 256 atoms, and no
@@ -78,4 +79,47 @@ fn terms_name_below(count: usize, terms: &[Term]) -> bool
         }
     }
     true
+}
+
+/// The law that each variable has a name, and bounds within its limits.
+pub(crate) fn vars_keep_limits(vars: &[Var])
+    ensures { All VarFits vars.now }
+{
+    for var in vars {
+        let _lo = var.lo();
+    }
+}
+
+/// The law that the sides of each atom keep their limits.
+pub(crate) fn atoms_keep_limits(atoms: &[Atom])
+    ensures { All AtomFits atoms.now }
+{
+    for atom in atoms {
+        atom_keeps_limits(atom);
+    }
+}
+
+/// The law that both sides of an atom keep their limits.
+fn atom_keeps_limits(atom: &Atom)
+    ensures { AtomFits atom.now }
+{
+    side_keeps_limits(&atom.left);
+    side_keeps_limits(&atom.right);
+}
+
+/// The law that a side has 1 to 64 terms, none of which is too large.
+fn side_keeps_limits(side: &Expr)
+    ensures size { ExprFits side.now }
+    ensures terms { All TermFits side.now }
+{
+    terms_keep_limits(side.terms());
+}
+
+/// The law that no term is too large.
+fn terms_keep_limits(terms: &[Term])
+    ensures { All TermFits terms.now }
+{
+    for term in terms {
+        let _factor = term.factor();
+    }
 }

@@ -3,6 +3,7 @@
 ghost use Rattle.std.specs.Prelude.{◌≡◌, ◌↔◌, IsTrue, bytes_eq};
 ghost use Rattle.lin_model.specs.Names.{IsName, is_name_start, is_name_byte, is_reserved};
 
+use std::alloc::AllocError;
 use std::marker::Model;
 
 /// The most bytes that a name has.
@@ -24,6 +25,17 @@ impl Model for Name {
     ghost view = { λ name. name.bytes.items };
 
     ghost invariant = { λ name. IsName name.bytes.items };
+}
+
+impl Clone for Name {
+    /// A copy equals what it was made of.
+    ghost is_clone = { λ name copy. copy ≡ name };
+
+    fn clone(&self) -> Result<Name, AllocError> {
+        Ok(Name {
+            bytes: self.bytes.clone()?,
+        })
+    }
 }
 
 impl Name {

@@ -7,7 +7,8 @@ use crate::form::FormTerm;
 use crate::key_atom::KeyAtom;
 use std::cmp::Ordering;
 
-/// Compares two atoms by form, then by the code of the op, then by constant. Forms compare term by term, the variable before the coefficient, and a proper prefix comes before.
+/// Compares two atoms by form, then by the code of the op, then by constant. Forms compare term by term, the variable
+/// before the coefficient, and a proper prefix comes before.
 pub fn cmp_atoms(a: &KeyAtom, b: &KeyAtom) -> Ordering
     ensures { result ≡ compare_atoms a.now b.now }
 {

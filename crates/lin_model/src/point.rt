@@ -6,7 +6,17 @@ ghost use Rattle.lin_model.specs.Point.{IsPoint};
 
 use std::marker::Model;
 
-/// A short list of whole numbers: no more than 64, none of them larger than 2^32 in size. Each is the value of the variable whose number is its place, from 0.
+/// The most values that a point has.
+pub const MAX_VALUES: usize = 64;
+
+/// The greatest size of a value of a point.
+pub const MAX_VALUE: u64 = 1 << 32;
+
+/// The greatest size of a side of a box: one past the values of points.
+pub const MAX_SIDE: u64 = MAX_VALUE + 1;
+
+/// A short list of whole numbers: no more than 64, none of them larger than 2^32 in size. Each is the value of the
+/// variable whose number is its place, from 0.
 #[derive(Debug, Drop)]
 pub struct Point {
     values: Vec<i64>,
@@ -58,5 +68,5 @@ impl Point {
 fn is_point(values: &[i64]) -> bool
     ensures { IsTrue result ↔ IsPoint values.now }
 {
-    values.len() <= 64 && values.iter().all(|n| n.unsigned_abs() <= 1 << 32)
+    values.len() <= MAX_VALUES && values.iter().all(|n| n.unsigned_abs() <= MAX_VALUE)
 }

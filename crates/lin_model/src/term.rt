@@ -1,20 +1,23 @@
 //! Terms, and the sides of a comparison.
 
-ghost use Rattle.std.specs.Prelude.{◌≡◌, ◌↔◌, ◌≤◌, ◌^◌, ◌*◌, length, unsigned_abs, IsTrue, Option, ℕ, ℤ, ◌+ℤ◌, ◌*ℤ◌, take};
+ghost use Rattle.std.specs.Prelude.{◌≡◌, ◌↔◌, ◌≤◌, ◌^◌, ◌*◌, length, unsigned_abs, IsTrue, Option, ℕ, ℤ, ◌+ℤ◌, ◌*ℤ◌};
+ghost use Rattle.std.specs.Prelude.{take};
 ghost use Rattle.lin_model.specs.Terms.{PlainTerm, TermFits, ExprFits, term_value, value_of, value_at, weight};
 
+use std::alloc::AllocError;
 use std::marker::Model;
 
 /// The greatest size of a factor.
-pub const MAX_FACTOR: i64 = 1 << 31;
+pub const MAX_FACTOR: u64 = 1 << 31;
 
 /// The greatest size of a constant.
-pub const MAX_CONSTANT: i64 = 1 << 40;
+pub const MAX_CONSTANT: u64 = 1 << 40;
 
 /// The most terms that a side has.
 pub const MAX_TERMS: usize = 64;
 
-/// One item of a side. With a variable it is a factor, no larger than 2^31 in size; without one it is a constant, for which 2^40 is the limit.
+/// One item of a side. With a variable it is a factor, no larger than 2^31 in size; without one it is a constant, for
+/// which 2^40 is the limit.
 #[derive(Clone, Copy, Debug)]
 pub struct Term {
     factor: i64,
@@ -75,6 +78,17 @@ impl Model for Expr {
     ghost invariant = { λ expr. ExprFits expr.terms.items };
 }
 
+impl Clone for Expr {
+    /// A copy equals what it was made of.
+    ghost is_clone = { λ side copy. copy ≡ side };
+
+    fn clone(&self) -> Result<Expr, AllocError> {
+        Ok(Expr {
+            terms: self.terms.clone()?,
+        })
+    }
+}
+
 impl Expr {
     /// The sum of these terms.
     pub fn new(terms: Vec<Term>) -> Expr
@@ -120,7 +134,7 @@ fn term_value(term: &Term, values: &[i64]) -> i128
 
 /// The value of at most 64 terms together.
 fn value_of(terms: &[Term], values: &[i64]) -> i128
-    requires { length terms.now ≤ 64 }
+    requires { length terms.now ≤ MAX_TERMS }
     ensures { result ≡ value_of terms.now values.now }
 {
     let mut sum = 0;

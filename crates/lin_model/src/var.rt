@@ -5,10 +5,11 @@ ghost use Rattle.lin_model.specs.Terms.{PlainVar, VarFits};
 ghost use Rattle.lin_model.specs.Truth.{InBounds};
 
 use crate::name::Name;
+use std::alloc::AllocError;
 use std::marker::Model;
 
 /// The greatest size of a bound.
-pub const MAX_BOUND: i64 = 1 << 31;
+pub const MAX_BOUND: u64 = 1 << 31;
 
 /// A variable: its name, and its bounds `lo` to `hi`, both included, with -2^31 <= lo <= hi <= 2^31.
 #[derive(Debug, Drop)]
@@ -26,6 +27,19 @@ impl Model for Var {
     ghost view = { λ var. record { name = var.name; lo = var.lo; hi = var.hi } };
 
     ghost invariant = { λ var. VarFits (record { name = var.name; lo = var.lo; hi = var.hi }) };
+}
+
+impl Clone for Var {
+    /// A copy equals what it was made of.
+    ghost is_clone = { λ var copy. copy ≡ var };
+
+    fn clone(&self) -> Result<Var, AllocError> {
+        Ok(Var {
+            name: self.name.clone()?,
+            lo: self.lo,
+            hi: self.hi,
+        })
+    }
 }
 
 impl Var {

@@ -14,9 +14,11 @@ mod Passing
 mod Outcomes
 mod PositionLemmas
 mod Bounds
+mod Quantities
 mod Items
 mod Sides
 mod AtomLines
+mod Ranges
 mod VarLines
 mod QueryLines
 mod LinesRead

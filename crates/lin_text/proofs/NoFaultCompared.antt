@@ -1,9 +1,12 @@
 -- No fault stands in a line that compares.
-use Rattle.std.proofs.Common.{◌≡◌, ℕ, ◌<◌, ◌≤◌, ◌^◌, Bool, true, false, List, [], ◌∷◌, ◌++◌, refl, sym, ap, subst, ◌∙◌, arith, append_assoc, inl, inr}
+use Rattle.std.proofs.Common.{◌≡◌, ℕ, ◌<◌, ◌≤◌, ◌^◌, Bool, true, false, List, [], ◌∷◌, ◌++◌, refl, sym, ap, subst, ◌∙◌}
+use Rattle.std.proofs.Common.{arith, append_assoc, inl, inr}
 use Rattle.std.specs.Prelude.{Contains, MatchBool}
 use Rattle.lin_model.specs.declared.atom.Atom.{Atom}
 use Rattle.lin_text.specs.declared.fault.TextKind.{TextKind}
-use Rattle.lin_text.specs.declared.fault.TextKind.TheVariants.{Token, Syntax, NumberTooLarge, UnknownName, NameTwice, EmptyRange, TooManyVars, TooManyAtoms, TooManyTerms, NoMemory}
+use Rattle.lin_text.specs.declared.fault.TextKind.TheVariants.{Token, Syntax, NumberTooLarge, UnknownName, NameTwice}
+use Rattle.lin_text.specs.declared.fault.TextKind.TheVariants.{EmptyRange, TooManyVars, TooManyAtoms, TooManyTerms}
+use Rattle.lin_text.specs.declared.fault.TextKind.TheVariants.{NoMemory}
 use Rattle.lin_text.specs.Pieces.{Piece, var, word, name, number, plus, minus, times, compare, bad, line_end, PlainLine}
 use Rattle.lin_text.specs.Grammar.{comparison, Compares}
 use Rattle.lin_text.specs.Faults.{begins_variable, declared_names, atom_count, Stands}
@@ -30,7 +33,8 @@ number_fits : (b : Bool) (n : ℕ) → n ≤ 2 ^ 40 → b ≡ false → MatchBoo
 number_fits true n le e large = absurd (cc)
 number_fits false n le e large = absurd (omega arith)
 
-module _ (above : List PlainLine) (names : List (List ℕ)) (front : List Piece) (p : Piece) (after : List Piece) (a : Atom) (c : Compares names (front ++ p ∷ after) a) where
+module _ (above : List PlainLine) (names : List (List ℕ)) (front : List Piece) (p : Piece) (after : List Piece)
+    (a : Atom) (c : Compares names (front ++ p ∷ after) a) where
   -- nothing before the token begins with `var`
   plain_front : begins_variable front ≡ true → ⊥
   plain_front e =
@@ -45,15 +49,21 @@ module _ (above : List PlainLine) (names : List (List ℕ)) (front : List Piece)
   sound : InComparison names p after
   sound = Every-at (InComparison names) front p after (Every-comparison names (front ++ p ∷ after) a c)
 
-  pub no_stand-compared : (kind : TextKind) → names ≡ declared_names above → atom_count above < 256 → Stands above front p after kind → ⊥
+  pub no_stand-compared : (kind : TextKind) → names ≡ declared_names above → atom_count above < 256
+      → Stands above front p after kind → ⊥
   no_stand-compared TooManyVars known few (none, e, count) =
-      let t : true ≡ false = sym (ap begins_variable (ap (λ (qs : List Piece). qs ++ p ∷ after) none ∙ ap (λ (q : Piece). q ∷ after) e)) ∙ no_variable names (front ++ p ∷ after) a c in
+      let t : true ≡ false = sym (ap begins_variable (ap (λ (qs : List Piece). qs ++ p ∷ after) none
+      ∙ ap (λ (q : Piece). q ∷ after) e)) ∙ no_variable names (front ++ p ∷ after) a c in
       absurd (cc)
   no_stand-compared TooManyAtoms known few (none, begins, count) = absurd (omega (arith, few, count))
   no_stand-compared TooManyTerms known few (full, begins) = no_full_side names front (p ∷ after) a c full
   no_stand-compared Token known few e = subst (λ (q : Piece). InComparison names q after) e sound
   no_stand-compared Syntax known few h =
-      h (record { line = comparison c.left a.cmp c.right; more = after; written = sym c.written ∙ sym (append_assoc front (p ∷ []) after) })
+      h (record {
+        line = comparison c.left a.cmp c.right;
+        more = after;
+        written = sym c.written ∙ sym (append_assoc front (p ∷ []) after);
+      })
   no_stand-compared NumberTooLarge known few (n, e, inl large) =
       let fits = subst (λ (q : Piece). InComparison names q after) e sound in
       number_fits (begins_variable front) n fits.0 (not_variable (begins_variable front) refl) large
@@ -61,7 +71,8 @@ module _ (above : List PlainLine) (names : List (List ℕ)) (front : List Piece)
       let fits = subst (λ (q : Piece). InComparison names q after) e sound in
       absurd (omega (arith, large, fits.1 factor))
   no_stand-compared UnknownName known few (x, e, no_var, unknown) =
-      unknown (subst (λ (xs : List (List ℕ)). Contains xs x) known (subst (λ (q : Piece). InComparison names q after) e sound))
+      unknown (subst (λ (xs : List (List ℕ)). Contains xs x) known
+      (subst (λ (q : Piece). InComparison names q after) e sound))
   no_stand-compared NameTwice known few (x, e, f, twice) = plain_front (ap begins_variable f)
   no_stand-compared EmptyRange known few (x, f, empty) = plain_front (ap begins_variable f)
   no_stand-compared NoMemory known few h = h

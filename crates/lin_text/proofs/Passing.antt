@@ -1,17 +1,22 @@
 -- At which tokens a fault stands, by the place behind the tokens before it.
-use Rattle.std.proofs.Common.{◌≡◌, ℕ, ◌≤◌, Bool, true, false, List, [], ◌∷◌, ◌++◌, Some, None, refl, sym, ap, inl, inr, ◌∙◌, append_assoc, arith, lit≤}
+use Rattle.std.proofs.Common.{◌≡◌, ℕ, ◌≤◌, Bool, true, false, List, [], ◌∷◌, ◌++◌, Some, None, refl, sym, ap, inl, inr}
+use Rattle.std.proofs.Common.{◌∙◌, append_assoc, arith, lit≤}
 use Rattle.std.specs.Prelude.{option_and_then, IsTrue, Contains}
 use Rattle.lin_text.specs.declared.fault.TextKind.{TextKind}
-use Rattle.lin_text.specs.declared.fault.TextKind.TheVariants.{Token, Syntax, NumberTooLarge, UnknownName, NameTwice, EmptyRange, TooManyVars, TooManyAtoms, TooManyTerms, NoMemory}
+use Rattle.lin_text.specs.declared.fault.TextKind.TheVariants.{Token, Syntax, NumberTooLarge, UnknownName, NameTwice}
+use Rattle.lin_text.specs.declared.fault.TextKind.TheVariants.{EmptyRange, TooManyVars, TooManyAtoms, TooManyTerms}
+use Rattle.lin_text.specs.declared.fault.TextKind.TheVariants.{NoMemory}
 use Rattle.lin_text.specs.Pieces.{Piece, var, word, name, number, plus, minus, times, compare, bad, line_end, PlainLine}
 use Rattle.lin_text.specs.Classes.{class_of}
 use Rattle.lin_text.specs.Reading.{refusal_kind}
 use Rattle.lin_text.specs.Grammar.{side_pieces, item_count, joint, BeginsLine}
-use Rattle.lin_text.specs.Faults.{begins_variable, begins_atom, begins_item, declared_names, atom_count, EndsInFullSide, IsTooLarge, Stands, rank}
-use Rattle.lin_text.proofs.Places.{Place, start, var_name, item, size, after, next, after_next, run, run-append, run-joint, run-side, start-side, run-BeginsLine}
+use Rattle.lin_text.specs.Faults.{begins_variable, begins_atom, begins_item, declared_names, atom_count, EndsInFullSide}
+use Rattle.lin_text.specs.Faults.{IsTooLarge, Stands, rank}
+use Rattle.lin_text.proofs.Places.{Place, start, var_name, item, size, after, next, after_next, run, run-append}
+use Rattle.lin_text.proofs.Places.{run-joint, run-side, start-side, run-BeginsLine}
 use Rattle.lin_text.proofs.Shapes.{Shape, Shape-next, BeginsLine-run}
 
--- the line goes on behind these tokens as it does at the place; v tells whether it declares a variable
+-- the line goes on behind these tokens as it does at the place; v says whether it declares a variable
 pub record At (v : Bool) (front : List Piece) (s : Place) : Type 0 where
   pub step : (q : Piece) → (front ≡ [] → q ≡ var → ⊥) → run start (front ++ q ∷ []) ≡ next s q
   pub shape : Shape s front
@@ -20,7 +25,8 @@ pub record At (v : Bool) (front : List Piece) (s : Place) : Type 0 where
 run-one : (s : Place) (q : Piece) → run s (q ∷ []) ≡ next s q
 run-one s q = elim (next s q) as (λ o. option_and_then (λ t. Some t) o ≡ o) [ None ↦ refl | Some t ↦ refl ]
 
-begins-more : (v : Bool) (front : List Piece) (q : Piece) → begins_variable front ≡ v → (front ≡ [] → q ≡ var → ⊥) → begins_variable (front ++ q ∷ []) ≡ v
+begins-more : (v : Bool) (front : List Piece) (q : Piece) → begins_variable front ≡ v → (front ≡ [] → q ≡ var → ⊥)
+    → begins_variable (front ++ q ∷ []) ≡ v
 begins-more v [] var e no_var = absurd (no_var refl refl)
 begins-more v [] _ e no_var = e
 begins-more v (var ∷ front) q e no_var = e
@@ -31,7 +37,8 @@ not-nil [] q e = cc
 not-nil (p ∷ front) q e = cc
 
 -- one token more
-pub At-next : (v : Bool) (front : List Piece) (s t : Place) (q : Piece) → At v front s → (front ≡ [] → q ≡ var → ⊥) → next s q ≡ Some t → At v (front ++ q ∷ []) t
+pub At-next : (v : Bool) (front : List Piece) (s t : Place) (q : Piece) → At v front s → (front ≡ [] → q ≡ var → ⊥)
+    → next s q ≡ Some t → At v (front ++ q ∷ []) t
 At-next v front s t q at no_var e =
     let there : run start (front ++ q ∷ []) ≡ Some t = at.step q no_var ∙ e in
     record {
@@ -69,7 +76,8 @@ full-place front full =
       | inl none ↦
           let r = run-side true full.side (joint full.subtracted ∷ []) in (
             true,
-            ap (run start) (full.written ∙ ap (λ (b : List Piece). b ++ side_pieces full.side ++ joint full.subtracted ∷ []) none)
+            ap (run start) (full.written ∙ ap (λ (b : List Piece). b ++ side_pieces full.side
+                ++ joint full.subtracted ∷ []) none)
                 ∙ start-side full.side (joint full.subtracted ∷ [])
                 ∙ r.1 ∙ run-joint true (item_count full.side) r.0 full.subtracted []
                 ∙ ap (λ (n : ℕ). Some (item true n)) full.full,
@@ -79,7 +87,10 @@ full-place front full =
           let l = run-side true some.0 (compare some.1 ∷ rest) in
           let r = run-side false full.side (joint full.subtracted ∷ []) in (
             false,
-            ap (run start) (full.written ∙ ap (λ (b : List Piece). b ++ side_pieces full.side ++ joint full.subtracted ∷ []) some.2 ∙ append_assoc (side_pieces some.0 ++ compare some.1 ∷ []) (side_pieces full.side) (joint full.subtracted ∷ []) ∙ append_assoc (side_pieces some.0) (compare some.1 ∷ []) rest)
+            ap (run start) (full.written ∙ ap (λ (b : List Piece). b ++ side_pieces full.side
+                ++ joint full.subtracted ∷ []) some.2
+                ∙ append_assoc (side_pieces some.0 ++ compare some.1 ∷ []) (side_pieces full.side)
+                (joint full.subtracted ∷ []) ∙ append_assoc (side_pieces some.0) (compare some.1 ∷ []) rest)
                 ∙ start-side some.0 (compare some.1 ∷ rest)
                 ∙ l.1 ∙ r.1 ∙ run-joint false (item_count full.side) r.0 full.subtracted []
                 ∙ ap (λ (n : ℕ). Some (item false n)) full.full,
@@ -87,7 +98,8 @@ full-place front full =
     ]
 
 -- behind a full side the line goes on as before an item
-pub full-next : (v : Bool) (front : List Piece) (s : Place) (q : Piece) → At v front s → EndsInFullSide front → (front ≡ [] → q ≡ var → ⊥) → (l : Bool) × (next s q ≡ next (item l 64) q)
+pub full-next : (v : Bool) (front : List Piece) (s : Place) (q : Piece) → At v front s → EndsInFullSide front
+    → (front ≡ [] → q ≡ var → ⊥) → (l : Bool) × (next s q ≡ next (item l 64) q)
 full-next v front s q at full no_var =
     let f = full-place front full in
     (f.0, sym (at.step q no_var) ∙ run-append start front (q ∷ []) (item f.0 64) f.1 ∙ run-one (item f.0 64) q)
@@ -103,7 +115,8 @@ abbrev pub NoFault : List PlainLine → List Piece → Piece → List Piece → 
 NoFault above front q rest = (k : TextKind) → (k ≡ EmptyRange → ⊥) → ¬ Stands above front q rest k
 
 -- a fault stands at a token, and none that goes before it
-pub record FirstStands (above : List PlainLine) (front : List Piece) (q : Piece) (rest : List Piece) (kind : TextKind) : Type 0 where
+pub record FirstStands (above : List PlainLine) (front : List Piece) (q : Piece) (rest : List Piece)
+    (kind : TextKind) : Type 0 where
   pub stands : Stands above front q rest kind
   pub least : (k : TextKind) → Stands above front q rest k → rank kind ≤ rank k
 
@@ -113,7 +126,8 @@ pub record IsRoom (above : List PlainLine) (front : List Piece) (q : Piece) : Ty
   pub atoms : front ≡ [] → IsTrue (begins_atom q) → atom_count above ≡ 256 → ⊥
 
 -- a token that can't come next
-pub refused : (above : List PlainLine) (v : Bool) (front : List Piece) (s : Place) (q : Piece) (rest : List Piece) → At v front s → IsRoom above front q → next s q ≡ None → FirstStands above front q rest (refusal_kind (class_of q))
+pub refused : (above : List PlainLine) (v : Bool) (front : List Piece) (s : Place) (q : Piece) (rest : List Piece)
+    → At v front s → IsRoom above front q → next s q ≡ None → FirstStands above front q rest (refusal_kind (class_of q))
 refused above v front s q rest at room none =
     elim q as (λ p. q ≡ p → FirstStands above front q rest (refusal_kind (class_of p))) [
       | bad ↦ λ is. record { stands = is; least = before-token is }
@@ -132,7 +146,8 @@ refused above v front s q rest at room none =
     no_terms full b = let f = full-next v front s q at full room.vars in item-begins f.0 64 q (sym f.1 ∙ none) b
 
     no_line : ¬ BeginsLine (front ++ q ∷ [])
-    no_line b = let r = run-BeginsLine (front ++ q ∷ []) b in let e : None ≡ Some r.0 = sym none ∙ sym (at.step q room.vars) ∙ r.1 in cc
+    no_line b = let r = run-BeginsLine (front ++ q ∷ []) b in
+        let e : None ≡ Some r.0 = sym none ∙ sym (at.step q room.vars) ∙ r.1 in cc
 
     before-token : q ≡ bad → (k : TextKind) → Stands above front q rest k → rank Token ≤ rank k
     before-token is TooManyVars h = absurd (room.vars h.0 h.1)
@@ -170,7 +185,9 @@ no_bad (after l n bare) t e = no_bad_after l n bare t e
 no_bad _ t e = cc
 
 -- a token that can come next
-module _ (above : List PlainLine) (v : Bool) (front : List Piece) (s t : Place) (q : Piece) (rest : List Piece) (at : At v front s) (room : IsRoom above front q) (some : next s q ≡ Some t) (not_full : (l : Bool) → next s minus ≡ Some (size l 64) → ⊥) where
+module _ (above : List PlainLine) (v : Bool) (front : List Piece) (s t : Place) (q : Piece) (rest : List Piece)
+    (at : At v front s) (room : IsRoom above front q) (some : next s q ≡ Some t) (not_full : (l : Bool)
+    → next s minus ≡ Some (size l 64) → ⊥) where
   no_terms : EndsInFullSide front → ⊥
   no_terms full =
       let f = full-next v front s minus at full (λ _ e. let no : minus ≡ var = e in cc) in
@@ -195,7 +212,10 @@ module _ (above : List PlainLine) (v : Bool) (front : List Piece) (s t : Place) 
   small_rank NoMemory h = lit≤ tt
 
   -- no fault stands there
-  pub passed : ((n : ℕ) → q ≡ number n → IsTooLarge front n rest → ⊥) → ((x : List ℕ) → q ≡ name x → v ≡ false → Contains (declared_names above) x) → ((x : List ℕ) → q ≡ name x → front ≡ var ∷ [] → Contains (declared_names above) x → ⊥) → NoFault above front q rest
+  pub passed : ((n : ℕ) → q ≡ number n → IsTooLarge front n rest → ⊥)
+      → ((x : List ℕ) → q ≡ name x → v ≡ false → Contains (declared_names above) x)
+      → ((x : List ℕ) → q ≡ name x → front ≡ var ∷ [] → Contains (declared_names above) x → ⊥)
+      → NoFault above front q rest
   passed small known once TooManyVars ne h = room.vars h.0 h.1
   passed small known once TooManyAtoms ne h = room.atoms h.0 h.1 h.2
   passed small known once TooManyTerms ne h = no_terms h.0
@@ -208,7 +228,10 @@ module _ (above : List PlainLine) (v : Bool) (front : List Piece) (s t : Place) 
   passed small known once NoMemory ne h = h
 
   -- no fault that goes before an empty range stands there
-  pub late_rank : ((n : ℕ) → q ≡ number n → IsTooLarge front n rest → ⊥) → ((x : List ℕ) → q ≡ name x → v ≡ false → Contains (declared_names above) x) → ((x : List ℕ) → q ≡ name x → front ≡ var ∷ [] → Contains (declared_names above) x → ⊥) → (k : TextKind) → Stands above front q rest k → 8 ≤ rank k
+  pub late_rank : ((n : ℕ) → q ≡ number n → IsTooLarge front n rest → ⊥)
+      → ((x : List ℕ) → q ≡ name x → v ≡ false → Contains (declared_names above) x)
+      → ((x : List ℕ) → q ≡ name x → front ≡ var ∷ [] → Contains (declared_names above) x → ⊥) → (k : TextKind)
+      → Stands above front q rest k → 8 ≤ rank k
   late_rank small known once EmptyRange h = lit≤ tt
   late_rank small known once TooManyVars h = absurd (passed small known once TooManyVars (λ e. cc) h)
   late_rank small known once TooManyAtoms h = absurd (passed small known once TooManyAtoms (λ e. cc) h)
@@ -247,4 +270,5 @@ module _ (above : List PlainLine) (v : Bool) (front : List Piece) (s t : Place) 
 
   -- a sign, or the end of the line
   pub sign_passed : ((n : ℕ) → q ≡ number n → ⊥) → ((x : List ℕ) → q ≡ name x → ⊥) → NoFault above front q rest
-  sign_passed no_number no_name = passed (λ n e _. no_number n e) (λ x e. absurd (no_name x e)) (λ x e. absurd (no_name x e))
+  sign_passed no_number no_name =
+      passed (λ n e _. no_number n e) (λ x e. absurd (no_name x e)) (λ x e. absurd (no_name x e))

@@ -1,5 +1,6 @@
 -- Where the tokens and lines of a text lie, and that none is missing.
-use Rattle.std.proofs.Common.{◌≡◌, ℕ, ◌+◌, ◌-◌, ◌<◌, ◌≤◌, zero, suc, Bool, true, false, cond, not, nat_lt, nat_eq, List, [], ◌∷◌, ◌++◌, length, drop, refl, sym, ap, subst, ◌∙◌, arith, length-drop}
+use Rattle.std.proofs.Common.{◌≡◌, ℕ, ◌+◌, ◌-◌, ◌<◌, ◌≤◌, zero, suc, Bool, true, false, cond, not, nat_lt, nat_eq, List}
+use Rattle.std.proofs.Common.{[], ◌∷◌, ◌++◌, length, drop, refl, sym, ap, subst, ◌∙◌, arith, length-drop}
 use Rattle.std.specs.Prelude.{◌&&◌, MatchBool, slice_range}
 use Rattle.std.specs.List.{prefix_len}
 use Rattle.std.proofs.lemmas.List.{drop-drop}
@@ -12,26 +13,32 @@ use Rattle.lin_text.specs.declared.token.Token.{Token}
 use Rattle.lin_text.specs.declared.token.TokenKind.{TokenKind}
 use Rattle.lin_text.specs.declared.token.TokenKind.TheVariants as kinds
 use Rattle.lin_text.specs.Lines.{is_feed, is_in_line, is_blank, line_end, line_below, line_from}
-use Rattle.lin_text.specs.Tokens.{token_length, symbol_length, begins_pair, begins_equal, is_symbol, kind_of, nothing_at, token_of, token_here, token_from}
-use Rattle.lin_text.specs.Pieces.{PlainToken, PlainLine, plain_token, first_token, is_last, AreTokens, AreLines, piece_of}
+use Rattle.lin_text.specs.Tokens.{token_length, symbol_length, begins_pair, begins_equal, is_symbol, kind_of}
+use Rattle.lin_text.specs.Tokens.{nothing_at, token_of, token_here, token_from}
+use Rattle.lin_text.specs.Pieces.{PlainToken, PlainLine, plain_token, first_token, is_last, AreTokens, AreLines}
+use Rattle.lin_text.specs.Pieces.{piece_of}
 use Rattle.lin_text.specs.LineLaws.{IsAhead, LinesAreInOrder}
 use Rattle.lin_text.specs.Facts.{first_line-bounds}
 use Rattle.lin_text.proofs.UniqueTokens.{AreLines-once}
 
 -- a run of bytes of a sort is no longer than one of a wider sort
-prefix_len-mono : (p q : ℕ → Bool) → ((b : ℕ) → p b ≡ true → q b ≡ true) → (xs : List ℕ) → prefix_len p xs ≤ prefix_len q xs
+prefix_len-mono : (p q : ℕ → Bool) → ((b : ℕ) → p b ≡ true → q b ≡ true) → (xs : List ℕ)
+    → prefix_len p xs ≤ prefix_len q xs
 prefix_len-mono p q wider [] = omega arith
 prefix_len-mono p q wider (x ∷ xs) =
     elim (p x) as (λ b. p x ≡ b → cond b (1 + prefix_len p xs) 0 ≤ prefix_len q (x ∷ xs)) [
-      | true ↦ λ e. subst (λ (c : Bool). 1 + prefix_len p xs ≤ cond c (1 + prefix_len q xs) 0) (sym (wider x e)) (omega (arith, prefix_len-mono p q wider xs))
+      | true ↦ λ e. subst (λ (c : Bool). 1 + prefix_len p xs ≤ cond c (1 + prefix_len q xs) 0) (sym (wider x e))
+          (omega (arith, prefix_len-mono p q wider xs))
       | false ↦ λ e. omega arith
     ] refl
 
-prefix_len-drop : (p : ℕ → Bool) (xs : List ℕ) (k : ℕ) → k ≤ prefix_len p xs → k + prefix_len p (drop k xs) ≡ prefix_len p xs
+prefix_len-drop : (p : ℕ → Bool) (xs : List ℕ) (k : ℕ) → k ≤ prefix_len p xs
+    → k + prefix_len p (drop k xs) ≡ prefix_len p xs
 prefix_len-drop p xs zero le = omega arith
 prefix_len-drop p [] (suc k) le = absurd (omega arith)
 prefix_len-drop p (x ∷ xs) (suc k) le =
-    elim (p x) as (λ b. suc k ≤ cond b (1 + prefix_len p xs) 0 → suc k + prefix_len p (drop k xs) ≡ cond b (1 + prefix_len p xs) 0) [
+    elim (p x) as (λ b. suc k ≤ cond b (1 + prefix_len p xs) 0
+    → suc k + prefix_len p (drop k xs) ≡ cond b (1 + prefix_len p xs) 0) [
       | true ↦ λ h. omega (arith, prefix_len-drop p xs k (omega arith))
       | false ↦ λ h. absurd (omega arith)
     ] le
@@ -51,27 +58,49 @@ by_feed p none b e =
 
 symbol-in : (b : ℕ) (bs : List ℕ) → is_feed b ≡ false → symbol_length b bs ≤ prefix_len is_in_line (b ∷ bs)
 symbol-in b bs e =
-    subst (λ (c : Bool). symbol_length b bs ≤ cond c (1 + prefix_len is_in_line bs) 0) (sym (in_line_not b e)) (by_pair (begins_pair b) bs)
+    subst (λ (c : Bool). symbol_length b bs ≤ cond c (1 + prefix_len is_in_line bs) 0) (sym (in_line_not b e))
+    (by_pair (begins_pair b) bs)
   where
-    by_pair : (pair : Bool) (cs : List ℕ) → cond (pair && begins_equal cs) 2 (cond (is_symbol b) 1 0) ≤ 1 + prefix_len is_in_line cs
-    by_pair false cs = elim (is_symbol b) as (λ s. cond s 1 0 ≤ 1 + prefix_len is_in_line cs) [ true ↦ omega arith | false ↦ omega arith ]
-    by_pair true [] = elim (is_symbol b) as (λ s. cond s 1 0 ≤ 1 + prefix_len is_in_line []) [ true ↦ omega arith | false ↦ omega arith ]
+    by_pair : (pair : Bool) (cs : List ℕ) → cond (pair && begins_equal cs) 2 (cond (is_symbol b) 1 0)
+        ≤ 1 + prefix_len is_in_line cs
+    by_pair false cs = elim (is_symbol b) as (λ s. cond s 1 0 ≤ 1 + prefix_len is_in_line cs) [
+      | true ↦ omega arith
+      | false ↦ omega arith
+    ]
+    by_pair true [] = elim (is_symbol b) as (λ s. cond s 1 0 ≤ 1 + prefix_len is_in_line []) [
+      | true ↦ omega arith
+      | false ↦ omega arith
+    ]
     by_pair true (c ∷ cs) =
-        elim (nat_eq c 61) as (λ s. nat_eq c 61 ≡ s → cond s 2 (cond (is_symbol b) 1 0) ≤ 1 + prefix_len is_in_line (c ∷ cs)) [
-          | true ↦ λ s. subst (λ (d : Bool). 2 ≤ 1 + cond d (1 + prefix_len is_in_line cs) 0) (sym (by_feed (λ d. nat_eq d 61) refl c s)) (omega arith)
-          | false ↦ λ s. elim (is_symbol b) as (λ s'. cond s' 1 0 ≤ 1 + prefix_len is_in_line (c ∷ cs)) [ true ↦ omega arith | false ↦ omega arith ]
+        elim (nat_eq c 61) as (λ s. nat_eq c 61 ≡ s
+        → cond s 2 (cond (is_symbol b) 1 0) ≤ 1 + prefix_len is_in_line (c ∷ cs)) [
+          | true ↦ λ s. subst (λ (d : Bool). 2 ≤ 1 + cond d (1 + prefix_len is_in_line cs) 0)
+              (sym (by_feed (λ d. nat_eq d 61) refl c s)) (omega arith)
+          | false ↦ λ s. elim (is_symbol b) as (λ s'. cond s' 1 0 ≤ 1 + prefix_len is_in_line (c ∷ cs)) [
+            | true ↦
+                omega arith
+            | false ↦ omega arith
+          ]
         ] refl
 
 -- a token ends within its line
 token_length-in : (b : ℕ) (bs : List ℕ) → is_feed b ≡ false → token_length (b ∷ bs) ≤ prefix_len is_in_line (b ∷ bs)
 unfolding token_length
 token_length-in b bs e =
-    elim (is_name_start b) as (λ s. cond s (1 + prefix_len is_name_byte bs) (cond (is_digit b) (1 + prefix_len is_digit bs) (symbol_length b bs)) ≤ prefix_len is_in_line (b ∷ bs)) [
-      | true ↦ subst (λ (c : Bool). 1 + prefix_len is_name_byte bs ≤ cond c (1 + prefix_len is_in_line bs) 0) (sym (in_line_not b e)) (omega (arith, prefix_len-mono is_name_byte is_in_line (by_feed is_name_byte refl) bs))
-      | false ↦ elim (is_digit b) as (λ d. cond d (1 + prefix_len is_digit bs) (symbol_length b bs) ≤ prefix_len is_in_line (b ∷ bs)) [
-        | true ↦ subst (λ (c : Bool). 1 + prefix_len is_digit bs ≤ cond c (1 + prefix_len is_in_line bs) 0) (sym (in_line_not b e)) (omega (arith, prefix_len-mono is_digit is_in_line (by_feed is_digit refl) bs))
-        | false ↦ symbol-in b bs e
-      ]
+    elim (is_name_start b) as (λ s. cond s (1 + prefix_len is_name_byte bs)
+    (cond (is_digit b) (1 + prefix_len is_digit bs) (symbol_length b bs)) ≤ prefix_len is_in_line (b ∷ bs)) [
+      | true ↦ subst (λ (c : Bool). 1 + prefix_len is_name_byte bs ≤ cond c (1 + prefix_len is_in_line bs) 0)
+          (sym (in_line_not b e)) (omega (
+            arith,
+            prefix_len-mono is_name_byte is_in_line
+                (by_feed is_name_byte refl) bs,
+          ))
+      | false ↦ elim (is_digit b) as (λ d. cond d (1 + prefix_len is_digit bs) (symbol_length b bs)
+          ≤ prefix_len is_in_line (b ∷ bs)) [
+            | true ↦ subst (λ (c : Bool). 1 + prefix_len is_digit bs ≤ cond c (1 + prefix_len is_in_line bs) 0)
+                (sym (in_line_not b e)) (omega (arith, prefix_len-mono is_digit is_in_line (by_feed is_digit refl) bs))
+            | false ↦ symbol-in b bs e
+          ]
     ]
 
 -- a token is within a line that has so many bytes more, and it has bytes unless it is the last
@@ -84,35 +113,74 @@ pub record IsWithin (at n : ℕ) (t : Token) : Type 0 where
 some_long : (b : ℕ) (bs : List ℕ) → token_length (b ∷ bs) ≡ 0 → kind_of b (token_length (b ∷ bs)) ≡ kinds.Bad
 unfolding token_length
 some_long b bs e =
-    elim (is_name_start b) as (λ s. cond s (1 + prefix_len is_name_byte bs) (cond (is_digit b) (1 + prefix_len is_digit bs) (symbol_length b bs)) ≡ 0 → (n : ℕ) → n ≡ 0 → cond s (cond (nat_lt 64 n) kinds.Bad kinds.Name) (cond (is_digit b) kinds.Number (cond (nat_eq n 0) kinds.Bad kinds.Symbol)) ≡ kinds.Bad) [
+    elim (is_name_start b) as (λ s. cond s (1 + prefix_len is_name_byte bs)
+    (cond (is_digit b) (1 + prefix_len is_digit bs) (symbol_length b bs)) ≡ 0 → (n : ℕ) → n ≡ 0
+    → cond s (cond (nat_lt 64 n) kinds.Bad kinds.Name)
+    (cond (is_digit b) kinds.Number (cond (nat_eq n 0) kinds.Bad kinds.Symbol)) ≡ kinds.Bad) [
       | true ↦ λ h n z. absurd (omega arith)
-      | false ↦ elim (is_digit b) as (λ d. cond d (1 + prefix_len is_digit bs) (symbol_length b bs) ≡ 0 → (n : ℕ) → n ≡ 0 → cond d kinds.Number (cond (nat_eq n 0) kinds.Bad kinds.Symbol) ≡ kinds.Bad) [
-        | true ↦ λ h n z. absurd (omega arith)
-        | false ↦ λ h n z. rw z refl
-      ]
+      | false ↦ elim (is_digit b) as (λ d. cond d (1 + prefix_len is_digit bs) (symbol_length b bs) ≡ 0 → (n : ℕ)
+          → n ≡ 0 → cond d kinds.Number (cond (nat_eq n 0) kinds.Bad kinds.Symbol) ≡ kinds.Bad) [
+            | true ↦ λ h n z. absurd (omega arith)
+            | false ↦ λ h n z. rw z refl
+          ]
     ] e (token_length (b ∷ bs)) e
 
 positive : (at n : ℕ) → (n ≡ 0 → ⊥) → at < at + n
 positive at zero e = absurd (e refl)
 positive at (suc n) e = omega arith
 
-token_of-within : (kind : TokenKind) (at n m : ℕ) → n ≤ m → (n ≡ 0 → kind ≡ kinds.Bad) → IsWithin at m (token_of kind at n)
-token_of-within kinds.Bad at n m le z = record { from = refl; order = omega arith; within = omega arith; some = λ b l. absurd (b refl) }
-token_of-within kinds.Name at n m le z = record { from = refl; order = omega arith; within = omega arith; some = λ b l. positive at n (λ e. b (z e)) }
-token_of-within kinds.Number at n m le z = record { from = refl; order = omega arith; within = omega arith; some = λ b l. positive at n (λ e. b (z e)) }
-token_of-within kinds.Symbol at n m le z = record { from = refl; order = omega arith; within = omega arith; some = λ b l. positive at n (λ e. b (z e)) }
-token_of-within kinds.LineEnd at n m le z = record { from = refl; order = omega arith; within = omega arith; some = λ b l. absurd (l refl) }
+token_of-within : (kind : TokenKind) (at n m : ℕ) → n ≤ m → (n ≡ 0 → kind ≡ kinds.Bad)
+    → IsWithin at m (token_of kind at n)
+token_of-within kinds.Bad at n m le z = record {
+  from = refl;
+  order = omega arith;
+  within = omega arith;
+  some = λ b l. absurd (b refl);
+}
+token_of-within kinds.Name at n m le z = record {
+  from = refl;
+  order = omega arith;
+  within = omega arith;
+  some = λ b l. positive at n (λ e. b (z e));
+}
+token_of-within kinds.Number at n m le z = record {
+  from = refl;
+  order = omega arith;
+  within = omega arith;
+  some = λ b l. positive at n (λ e. b (z e));
+}
+token_of-within kinds.Symbol at n m le z = record {
+  from = refl;
+  order = omega arith;
+  within = omega arith;
+  some = λ b l. positive at n (λ e. b (z e));
+}
+token_of-within kinds.LineEnd at n m le z = record {
+  from = refl;
+  order = omega arith;
+  within = omega arith;
+  some = λ b l. absurd (l refl);
+}
 
 token_here-within : (at : ℕ) (rest : List ℕ) → IsWithin at (prefix_len is_in_line rest) (token_here at rest)
 unfolding token_here
-token_here-within at [] = record { from = refl; order = omega arith; within = omega arith; some = λ b l. absurd (l refl) }
+token_here-within at [] = record {
+  from = refl;
+  order = omega arith;
+  within = omega arith;
+  some = λ b l. absurd (l refl);
+}
 token_here-within at (b ∷ bs) =
-    elim (is_feed b) as (λ f. is_feed b ≡ f → IsWithin at (prefix_len is_in_line (b ∷ bs)) (cond f (nothing_at kinds.LineEnd at) (token_of (kind_of b (token_length (b ∷ bs))) at (token_length (b ∷ bs))))) [
+    elim (is_feed b) as (λ f. is_feed b ≡ f → IsWithin at (prefix_len is_in_line (b ∷ bs))
+    (cond f (nothing_at kinds.LineEnd at) (token_of (kind_of b (token_length (b ∷ bs))) at
+    (token_length (b ∷ bs))))) [
       | true ↦ λ f. record { from = refl; order = omega arith; within = omega arith; some = λ b' l. absurd (l refl) }
-      | false ↦ λ f. token_of-within (kind_of b (token_length (b ∷ bs))) at (token_length (b ∷ bs)) (prefix_len is_in_line (b ∷ bs)) (token_length-in b bs f) (some_long b bs)
+      | false ↦ λ f. token_of-within (kind_of b (token_length (b ∷ bs))) at (token_length (b ∷ bs))
+          (prefix_len is_in_line (b ∷ bs)) (token_length-in b bs f) (some_long b bs)
     ] refl
 
-piece_last : (p : Bool) (kind : TokenKind) (text : List ℕ) → is_last (piece_of p kind text) ≡ false → (kind ≡ kinds.Bad → ⊥) × (kind ≡ kinds.LineEnd → ⊥)
+piece_last : (p : Bool) (kind : TokenKind) (text : List ℕ) → is_last (piece_of p kind text) ≡ false
+    → (kind ≡ kinds.Bad → ⊥) × (kind ≡ kinds.LineEnd → ⊥)
 unfolding piece_of
 piece_last p kinds.Bad text e = absurd (cc)
 piece_last p kinds.LineEnd text e = absurd (cc)
@@ -120,18 +188,28 @@ piece_last p kinds.Name text e = (λ f. cc, λ f. cc)
 piece_last p kinds.Number text e = (λ f. cc, λ f. cc)
 piece_last p kinds.Symbol text e = (λ f. cc, λ f. cc)
 
-ahead_of : (p : Bool) (bytes : List ℕ) (at : ℕ) (t : Token) → IsWithin (at + prefix_len is_blank (drop at bytes)) (prefix_len is_in_line (drop (at + prefix_len is_blank (drop at bytes)) bytes)) t → IsAhead bytes at (plain_token p bytes t)
+ahead_of : (p : Bool) (bytes : List ℕ) (at : ℕ) (t : Token)
+    → IsWithin (at + prefix_len is_blank (drop at bytes))
+    (prefix_len is_in_line (drop (at + prefix_len is_blank (drop at bytes)) bytes)) t
+    → IsAhead bytes at (plain_token p bytes t)
 unfolding plain_token
 ahead_of p bytes at t w =
     let blanks = prefix_len is_blank (drop at bytes) in
-    let few : blanks ≤ prefix_len is_in_line (drop at bytes) = prefix_len-mono is_blank is_in_line (by_feed is_blank refl) (drop at bytes) in
-    let rest : blanks + prefix_len is_in_line (drop blanks (drop at bytes)) ≡ prefix_len is_in_line (drop at bytes) = prefix_len-drop is_in_line (drop at bytes) blanks few in
-    let there : prefix_len is_in_line (drop (at + blanks) bytes) ≡ prefix_len is_in_line (drop blanks (drop at bytes)) = ap (prefix_len is_in_line) (sym (drop-drop blanks at bytes)) in
+    let few : blanks ≤ prefix_len is_in_line (drop at bytes) = prefix_len-mono is_blank is_in_line
+    (by_feed is_blank refl) (drop at bytes) in
+    let rest : blanks + prefix_len is_in_line (drop blanks (drop at bytes))
+    ≡ prefix_len is_in_line (drop at bytes) = prefix_len-drop is_in_line (drop at bytes) blanks few in
+    let there : prefix_len is_in_line (drop (at + blanks) bytes)
+    ≡ prefix_len is_in_line (drop blanks (drop at bytes)) =
+    ap (prefix_len is_in_line) (sym (drop-drop blanks at bytes)) in
     let k = t.to - at in
     let to_is : t.to ≡ at + k = omega (arith, w.from, w.order) in
     let upto : k ≤ prefix_len is_in_line (drop at bytes) = omega (arith, w.from, w.order, w.within) in
-    let whole : k + prefix_len is_in_line (drop k (drop at bytes)) ≡ prefix_len is_in_line (drop at bytes) = prefix_len-drop is_in_line (drop at bytes) k upto in
-    let same : prefix_len is_in_line (drop t.to bytes) ≡ prefix_len is_in_line (drop k (drop at bytes)) = ap (λ (m : ℕ). prefix_len is_in_line (drop m bytes)) to_is ∙ ap (prefix_len is_in_line) (sym (drop-drop k at bytes)) in
+    let whole : k + prefix_len is_in_line (drop k (drop at bytes))
+    ≡ prefix_len is_in_line (drop at bytes) = prefix_len-drop is_in_line (drop at bytes) k upto in
+    let same : prefix_len is_in_line (drop t.to bytes)
+    ≡ prefix_len is_in_line (drop k (drop at bytes)) = ap (λ (m : ℕ). prefix_len is_in_line (drop m bytes)) to_is
+    ∙ ap (prefix_len is_in_line) (sym (drop-drop k at bytes)) in
     record {
       ahead = omega (arith, w.from);
       order = w.order;
@@ -151,27 +229,44 @@ line_end-within : (bytes : List ℕ) (at : ℕ) → at ≤ length bytes → line
 line_end-within bytes at le = omega (arith, prefix_len-le-length is_in_line (drop at bytes), length-drop at bytes)
 
 -- every place has tokens
-pub tokens_total : (n : ℕ) (p : Bool) (bytes : List ℕ) (at : ℕ) → at ≤ length bytes → length bytes - at < n → (ts : List PlainToken) × AreTokens p bytes at ts
+pub tokens_total : (n : ℕ) (p : Bool) (bytes : List ℕ) (at : ℕ) → at ≤ length bytes → length bytes - at < n
+    → (ts : List PlainToken) × AreTokens p bytes at ts
 tokens_total zero p bytes at le few = absurd (omega arith)
 tokens_total (suc n) p bytes at le few =
     let t = first_token p bytes at in
     let ahead = first_token-ahead p bytes at in
     elim (is_last t.piece) as (λ b. is_last t.piece ≡ b → (ts : List PlainToken) × AreTokens p bytes at ts) [
-      | true ↦ λ e. (t ∷ [], (refl, subst (λ (b : Bool). MatchBool b (◌≡◌ {A = List PlainToken} [] []) (AreTokens p bytes t.to [])) (sym e) refl))
+      | true ↦ λ e. (
+        t ∷ [],
+        (
+          refl,
+          subst (λ (b : Bool).
+              MatchBool b (◌≡◌ {A = List PlainToken} [] []) (AreTokens p bytes t.to [])) (sym e) refl,
+        ),
+      )
       | false ↦ λ e.
           let further : t.from < t.to = ahead.some e in
-          let rest = tokens_total n p bytes t.to (omega (arith, ahead.within, line_end-within bytes at le)) (omega (arith, ahead.ahead, further, ahead.within, line_end-within bytes at le)) in
-          (t ∷ rest.0, (refl, subst (λ (b : Bool). MatchBool b (rest.0 ≡ []) (AreTokens p bytes t.to rest.0)) (sym e) rest.1))
+          let rest = tokens_total n p bytes t.to (omega (arith, ahead.within, line_end-within bytes at le))
+          (omega (arith, ahead.ahead, further, ahead.within, line_end-within bytes at le)) in (
+            t ∷ rest.0,
+            (
+              refl,
+              subst (λ (b : Bool). MatchBool b (rest.0 ≡ []) (AreTokens p bytes t.to rest.0))
+                  (sym e) rest.1,
+            ),
+          )
     ] refl
 
 -- every place has lines
-pub lines_total : (n : ℕ) (p : Bool) (bytes : List ℕ) (at : ℕ) → at ≤ length bytes → length bytes - at < n → (lines : List PlainLine) × AreLines p bytes at lines
+pub lines_total : (n : ℕ) (p : Bool) (bytes : List ℕ) (at : ℕ) → at ≤ length bytes → length bytes - at < n
+    → (lines : List PlainLine) × AreLines p bytes at lines
 lines_total zero p bytes at le few = absurd (omega arith)
 lines_total (suc n) p bytes at le few =
     let s = line_from bytes at in
     let bounds = first_line-bounds true at (drop at bytes) in
     let within : s ≤ length bytes = omega (arith, bounds.1, length-drop at bytes) in
-    elim (nat_lt s (length bytes)) as (λ b. nat_lt s (length bytes) ≡ b → (lines : List PlainLine) × AreLines p bytes at lines) [
+    elim (nat_lt s (length bytes)) as (λ b. nat_lt s (length bytes) ≡ b
+    → (lines : List PlainLine) × AreLines p bytes at lines) [
       | true ↦ λ e.
           let lt : s < length bytes = ltb-true s (length bytes) e in
           let ts = tokens_total (suc (length bytes)) p bytes s within (omega arith) in
@@ -181,16 +276,21 @@ lines_total (suc n) p bytes at le few =
     ] refl
 
 -- a token of a line lies behind the place, and within the line
-pub tokens-within : (p : Bool) (bytes : List ℕ) (at : ℕ) (ts front after : List PlainToken) (u : PlainToken) → AreTokens p bytes at ts → ts ≡ front ++ u ∷ after → (at ≤ u.from) × (u.from ≤ line_end bytes at)
+pub tokens-within : (p : Bool) (bytes : List ℕ) (at : ℕ) (ts front after : List PlainToken) (u : PlainToken)
+    → AreTokens p bytes at ts → ts ≡ front ++ u ∷ after → (at ≤ u.from) × (u.from ≤ line_end bytes at)
 tokens-within p bytes at [] front after u are e = absurd are
 tokens-within p bytes at (t ∷ ts) [] after u are e =
     let same : u ≡ first_token p bytes at = (let eq : t ≡ u = cc in sym eq ∙ are.0) in
     let ahead = first_token-ahead p bytes at in
-    subst (λ (w : PlainToken). (at ≤ w.from) × (w.from ≤ line_end bytes at)) (sym same) (ahead.ahead, omega (arith, ahead.order, ahead.within))
+    subst (λ (w : PlainToken). (at ≤ w.from) × (w.from ≤ line_end bytes at)) (sym same) (
+      ahead.ahead,
+      omega (arith, ahead.order, ahead.within),
+    )
 tokens-within p bytes at (t ∷ ts) (f ∷ front) after u are e =
     let ahead = subst (λ (w : PlainToken). IsAhead bytes at w) (sym are.0) (first_token-ahead p bytes at) in
     let rest : ts ≡ front ++ u ∷ after = cc in
-    elim (is_last t.piece) as (λ b. MatchBool b (ts ≡ []) (AreTokens p bytes t.to ts) → (at ≤ u.from) × (u.from ≤ line_end bytes at)) [
+    elim (is_last t.piece) as (λ b. MatchBool b (ts ≡ []) (AreTokens p bytes t.to ts)
+    → (at ≤ u.from) × (u.from ≤ line_end bytes at)) [
       | true ↦ λ h. absurd (not_nil front u after (sym rest ∙ h))
       | false ↦ λ h.
           let more = tokens-within p bytes t.to ts front after u h rest in
@@ -198,13 +298,15 @@ tokens-within p bytes at (t ∷ ts) (f ∷ front) after u are e =
     ] are.1
 
 -- of two tokens of a line the later one lies behind
-pub tokens-later : (p : Bool) (bytes : List ℕ) (at : ℕ) (ts front mid after : List PlainToken) (t u : PlainToken) → AreTokens p bytes at ts → ts ≡ front ++ t ∷ (mid ++ u ∷ after) → t.from < u.from
+pub tokens-later : (p : Bool) (bytes : List ℕ) (at : ℕ) (ts front mid after : List PlainToken) (t u : PlainToken)
+    → AreTokens p bytes at ts → ts ≡ front ++ t ∷ (mid ++ u ∷ after) → t.from < u.from
 tokens-later p bytes at [] front mid after t u are e = absurd are
 tokens-later p bytes at (w ∷ ts) [] mid after t u are e =
     let same : w ≡ t = cc in
     let rest : ts ≡ mid ++ u ∷ after = cc in
     let ahead = subst (λ (v : PlainToken). IsAhead bytes at v) (sym are.0) (first_token-ahead p bytes at) in
-    elim (is_last w.piece) as (λ b. is_last w.piece ≡ b → MatchBool b (ts ≡ []) (AreTokens p bytes w.to ts) → t.from < u.from) [
+    elim (is_last w.piece) as (λ b. is_last w.piece ≡ b → MatchBool b (ts ≡ []) (AreTokens p bytes w.to ts)
+    → t.from < u.from) [
       | true ↦ λ l h. absurd (not_nil mid u after (sym rest ∙ h))
       | false ↦ λ l h.
           let more = tokens-within p bytes w.to ts mid after u h rest in
@@ -219,13 +321,16 @@ tokens-later p bytes at (w ∷ ts) (f ∷ front) mid after t u are e =
     ] are.1
 
 -- a line lies behind the place
-pub lines-behind : (p : Bool) (bytes : List ℕ) (at : ℕ) (lines above below : List PlainLine) (line : PlainLine) → AreLines p bytes at lines → lines ≡ above ++ line ∷ below → (at ≤ line.start) × (line.start < length bytes) × AreTokens p bytes line.start line.tokens
+pub lines-behind : (p : Bool) (bytes : List ℕ) (at : ℕ) (lines above below : List PlainLine) (line : PlainLine)
+    → AreLines p bytes at lines → lines ≡ above ++ line ∷ below
+    → (at ≤ line.start) × (line.start < length bytes) × AreTokens p bytes line.start line.tokens
 lines-behind p bytes at [] [] below line are e = absurd (cc)
 lines-behind p bytes at [] (a ∷ above) below line are e = absurd (cc)
 lines-behind p bytes at (l ∷ lines) [] below line are e =
     let same : l ≡ line = cc in
     let bounds = first_line-bounds true at (drop at bytes) in
-    subst (λ (m : PlainLine). (at ≤ m.start) × (m.start < length bytes) × AreTokens p bytes m.start m.tokens) same (omega (arith, are.0, bounds.0), are.1, are.2)
+    subst (λ (m : PlainLine). (at ≤ m.start) × (m.start < length bytes) × AreTokens p bytes m.start m.tokens) same
+    (omega (arith, are.0, bounds.0), are.1, are.2)
 lines-behind p bytes at (l ∷ lines) (a ∷ above) below line are e =
     let bounds = first_line-bounds true at (drop at bytes) in
     let rest : lines ≡ above ++ line ∷ below = cc in
@@ -233,7 +338,8 @@ lines-behind p bytes at (l ∷ lines) (a ∷ above) below line are e =
     (omega (arith, are.0, are.1, bounds.0, more.0), more.1, more.2)
 
 -- of two lines the later one lies behind
-lines-later : (p : Bool) (bytes : List ℕ) (at : ℕ) (lines above between below : List PlainLine) (line later : PlainLine) → AreLines p bytes at lines → lines ≡ above ++ line ∷ (between ++ later ∷ below) → line.start < later.start
+lines-later : (p : Bool) (bytes : List ℕ) (at : ℕ) (lines above between below : List PlainLine) (line later : PlainLine)
+    → AreLines p bytes at lines → lines ≡ above ++ line ∷ (between ++ later ∷ below) → line.start < later.start
 lines-later p bytes at [] [] between below line later are e = absurd (cc)
 lines-later p bytes at [] (a ∷ above) between below line later are e = absurd (cc)
 lines-later p bytes at (l ∷ lines) [] between below line later are e =

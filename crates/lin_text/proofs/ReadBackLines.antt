@@ -1,5 +1,6 @@
 -- Declarations and comparisons on lines of their own, and what the lines mean.
-use Rattle.std.proofs.Common.{◌≡◌, ℕ, ◌<◌, ◌^◌, Bool, true, false, cond, List, [], ◌∷◌, ◌++◌, length, refl, sym, subst, arith, append_assoc, All, decimal, ℤ, pos, negsuc, neg_ℤ, ◌≤ℤ◌}
+use Rattle.std.proofs.Common.{◌≡◌, ℕ, ◌<◌, ◌^◌, Bool, true, false, cond, List, [], ◌∷◌, ◌++◌, length, refl, sym, subst}
+use Rattle.std.proofs.Common.{arith, append_assoc, All, decimal, ℤ, pos, negsuc, neg_ℤ, ◌≤ℤ◌}
 use Rattle.std.specs.Prelude.{codes, unsigned_abs}
 use Rattle.std.specs.List.{prefix_len}
 use Rattle.std.proofs.lemmas.Int.{ints}
@@ -8,12 +9,16 @@ use Rattle.lin_model.specs.Terms.{PlainVar, PlainTerm, TermFits, VarFits, ExprFi
 use Rattle.lin_model.specs.Conditions.{NamesBelow, AtomFits, AtomNamesBelow}
 use Rattle.lin_model.specs.declared.atom.Atom.{Atom}
 use Rattle.lin_model.specs.declared.atom.Cmp.{Cmp}
-use Rattle.lin_text.specs.Spelling.{is_negative, minus_of, integer, cmp_text, side_text, atom_text, bounds_text, var_text, line}
+use Rattle.lin_text.specs.Spelling.{is_negative, minus_of, integer, cmp_text, side_text, atom_text, bounds_text}
+use Rattle.lin_text.specs.Spelling.{var_text, line}
 use Rattle.lin_text.specs.Pieces.{Piece, var, name, number, minus, compare, line_end}
-use Rattle.lin_text.specs.Grammar.{Integer, Quantity, constant, multiple, single, Side, declaration, comparison, integer_pieces, integer_value, quantity_pieces, side_pieces, line_pieces, IsExpr, Declares, Compares}
+use Rattle.lin_text.specs.Grammar.{Integer, Quantity, constant, multiple, single, Side, declaration, comparison}
+use Rattle.lin_text.specs.Grammar.{integer_pieces, integer_value, quantity_pieces, side_pieces, line_pieces, IsExpr}
+use Rattle.lin_text.specs.Grammar.{Declares, Compares}
 use Rattle.lin_text.specs.Queries.{begins_word, names_of}
 use Rattle.lin_text.proofs.ReadBackTokens.{Reads, Reads-feed, Reads-blank, Starts}
-use Rattle.lin_text.proofs.ReadBackWords.{Stops-blank, Stops-feed, Starts-name, Starts-number, Starts-compare, Starts-var}
+use Rattle.lin_text.proofs.ReadBackWords.{Stops-blank, Stops-feed, Starts-name, Starts-number, Starts-compare}
+use Rattle.lin_text.proofs.ReadBackWords.{Starts-var}
 use Rattle.lin_text.proofs.ReadBackSides.{first_sign, shown_side, Starts-side, IsExpr-shown, CanSpell, CanSpell-all}
 
 -- a declaration
@@ -25,44 +30,69 @@ shown_integer-is : (z : ℤ) → z ≡ integer_value (shown_integer z)
 shown_integer-is (pos n) = refl
 shown_integer-is (negsuc n) = omega (arith, ints)
 
-Reads-integer : (z : ℤ) (rest left : List ℕ) (ps : List Piece) → unsigned_abs z < 2 ^ 64 → prefix_len is_digit rest ≡ 0 → Reads rest left ps → Reads (integer z ++ rest) left (integer_pieces (shown_integer z) ++ ps)
+Reads-integer : (z : ℤ) (rest left : List ℕ) (ps : List Piece) → unsigned_abs z < 2 ^ 64 → prefix_len is_digit rest ≡ 0
+    → Reads rest left ps → Reads (integer z ++ rest) left (integer_pieces (shown_integer z) ++ ps)
 unfolding integer minus_of
 Reads-integer z rest left ps small stops r =
-    (first_sign (is_negative z) (decimal (unsigned_abs z)) rest left (number (unsigned_abs z) ∷ []) ps (Starts-number (unsigned_abs z) rest left ps small stops r)).reads
+    (first_sign (is_negative z) (decimal (unsigned_abs z)) rest left (number (unsigned_abs z) ∷ []) ps
+    (Starts-number (unsigned_abs z) rest left ps small stops r)).reads
 
-regroup_declaration : (w s x l h e left : List ℕ) → w ++ (x ++ (s ++ (l ++ (s ++ (h ++ (e ++ left)))))) ≡ (((w ++ x) ++ (((s ++ l) ++ s) ++ h)) ++ e) ++ left
+regroup_declaration : (w s x l h e left : List ℕ)
+    → w ++ (x ++ (s ++ (l ++ (s ++ (h ++ (e ++ left)))))) ≡ (((w ++ x) ++ (((s ++ l) ++ s) ++ h)) ++ e) ++ left
 regroup_declaration w s x l h e left = simp append_assoc
 
 bounded : (z : ℤ) → neg_ℤ (pos (2 ^ 31)) ≤ℤ z → z ≤ℤ pos (2 ^ 31) → unsigned_abs z < 2 ^ 64
 bounded (pos n) low high = omega (arith, ints, high)
 bounded (negsuc n) low high = omega (arith, ints, low)
 
-bound_sizes : (lo hi : ℤ) → neg_ℤ (pos (2 ^ 31)) ≤ℤ lo → lo ≤ℤ hi → hi ≤ℤ pos (2 ^ 31) → (unsigned_abs lo < 2 ^ 64) × (unsigned_abs hi < 2 ^ 64)
-bound_sizes lo hi low order high = (bounded lo low (omega (arith, ints, order, high)), bounded hi (omega (arith, ints, low, order)) high)
+bound_sizes : (lo hi : ℤ) → neg_ℤ (pos (2 ^ 31)) ≤ℤ lo → lo ≤ℤ hi → hi ≤ℤ pos (2 ^ 31)
+    → (unsigned_abs lo < 2 ^ 64) × (unsigned_abs hi < 2 ^ 64)
+bound_sizes lo hi low order high =
+    (bounded lo low (omega (arith, ints, order, high)), bounded hi (omega (arith, ints, low, order)) high)
 
-pub Starts-declaration : (v : PlainVar) (left : List ℕ) → VarFits v → Starts (line (var_text v) ++ left) left (line_pieces (declaration v.name (shown_integer v.lo) (shown_integer v.hi)))
+pub Starts-declaration : (v : PlainVar) (left : List ℕ) → VarFits v
+    → Starts (line (var_text v) ++ left) left
+    (line_pieces (declaration v.name (shown_integer v.lo) (shown_integer v.hi)))
 unfolding var_text bounds_text
 Starts-declaration v left fits =
     let lo : List Piece = integer_pieces (shown_integer v.lo) in
     let hi : List Piece = integer_pieces (shown_integer v.hi) in
     let sizes = bound_sizes v.lo v.hi fits.low fits.order fits.high in
     let high = Reads-integer v.hi (10 ∷ left) left (line_end ∷ []) sizes.1 refl (Reads-feed left) in
-    let low = Reads-integer v.lo (32 ∷ (integer v.hi ++ (10 ∷ left))) left (hi ++ line_end ∷ []) sizes.0 refl (Reads-blank _ left _ high) in
-    let named = Starts-name v.name (32 ∷ (integer v.lo ++ (32 ∷ (integer v.hi ++ (10 ∷ left))))) left (lo ++ (hi ++ line_end ∷ [])) fits.name refl (Reads-blank _ left _ low) in
-    let whole = Starts-var (v.name ++ (32 ∷ (integer v.lo ++ (32 ∷ (integer v.hi ++ (10 ∷ left)))))) left (name v.name ∷ (lo ++ (hi ++ line_end ∷ []))) (Reads-blank _ left _ named.reads) in
-    subst (λ (text : List ℕ). Starts text left (line_pieces (declaration v.name (shown_integer v.lo) (shown_integer v.hi))))
+    let low = Reads-integer v.lo (32 ∷ (integer v.hi ++ (10 ∷ left))) left (hi ++ line_end ∷ []) sizes.0 refl
+    (Reads-blank _ left _ high) in
+    let named = Starts-name v.name (32 ∷ (integer v.lo ++ (32 ∷ (integer v.hi ++ (10 ∷ left))))) left
+    (lo ++ (hi ++ line_end ∷ [])) fits.name refl (Reads-blank _ left _ low) in
+    let whole = Starts-var (v.name ++ (32 ∷ (integer v.lo ++ (32 ∷ (integer v.hi ++ (10 ∷ left)))))) left
+    (name v.name ∷ (lo ++ (hi ++ line_end ∷ []))) (Reads-blank _ left _ named.reads) in
+    subst (λ (text : List ℕ). Starts text left
+    (line_pieces (declaration v.name (shown_integer v.lo) (shown_integer v.hi))))
     (regroup_declaration (codes "var ") (codes " ") v.name (integer v.lo) (integer v.hi) (10 ∷ []) left)
-    (subst (λ (ps : List Piece). Starts (codes "var " ++ (v.name ++ (codes " " ++ (integer v.lo ++ (codes " " ++ (integer v.hi ++ (10 ∷ left))))))) left (var ∷ name v.name ∷ ps)) (sym (append_assoc lo hi (line_end ∷ []))) whole)
+    (subst (λ (ps : List Piece). Starts (codes "var "
+    ++ (v.name ++ (codes " " ++ (integer v.lo ++ (codes " " ++ (integer v.hi ++ (10 ∷ left))))))) left
+    (var ∷ name v.name ∷ ps)) (sym (append_assoc lo hi (line_end ∷ []))) whole)
 
-pub Declares-shown : (v : PlainVar) → VarFits v → Declares (line_pieces (declaration v.name (shown_integer v.lo) (shown_integer v.hi))) v
-Declares-shown v fits = record { lo = shown_integer v.lo; hi = shown_integer v.hi; written = refl; low = shown_integer-is v.lo; high = shown_integer-is v.hi; fits = fits }
+pub Declares-shown : (v : PlainVar) → VarFits v
+    → Declares (line_pieces (declaration v.name (shown_integer v.lo) (shown_integer v.hi))) v
+Declares-shown v fits = record {
+  lo = shown_integer v.lo;
+  hi = shown_integer v.hi;
+  written = refl;
+  low = shown_integer-is v.lo;
+  high = shown_integer-is v.hi;
+  fits = fits;
+}
 
 -- a comparison
 
-regroup_comparison : (s l c r e left : List ℕ) → l ++ (s ++ (c ++ (s ++ (r ++ (e ++ left))))) ≡ (((((l ++ s) ++ c) ++ s) ++ r) ++ e) ++ left
+regroup_comparison : (s l c r e left : List ℕ)
+    → l ++ (s ++ (c ++ (s ++ (r ++ (e ++ left))))) ≡ (((((l ++ s) ++ c) ++ s) ++ r) ++ e) ++ left
 regroup_comparison s l c r e left = simp append_assoc
 
-Starts-comparison : (vars : List PlainVar) (l : PlainTerm) (ls : List PlainTerm) (cmp : Cmp) (r : PlainTerm) (rs : List PlainTerm) (left : List ℕ) → All (CanSpell vars) (l ∷ ls) → All (CanSpell vars) (r ∷ rs) → Starts (line ((((side_text vars (l ∷ ls) ++ codes " ") ++ cmp_text cmp) ++ codes " ") ++ side_text vars (r ∷ rs)) ++ left) left (line_pieces (comparison (shown_side vars l ls) cmp (shown_side vars r rs)))
+Starts-comparison : (vars : List PlainVar) (l : PlainTerm) (ls : List PlainTerm) (cmp : Cmp) (r : PlainTerm)
+    (rs : List PlainTerm) (left : List ℕ) → All (CanSpell vars) (l ∷ ls) → All (CanSpell vars) (r ∷ rs)
+    → Starts (line ((((side_text vars (l ∷ ls) ++ codes " ") ++ cmp_text cmp) ++ codes " ") ++ side_text vars (r ∷ rs))
+    ++ left) left (line_pieces (comparison (shown_side vars l ls) cmp (shown_side vars r rs)))
 Starts-comparison vars l ls cmp r rs left can_left can_right =
     let lp : List Piece = side_pieces (shown_side vars l ls) in
     let rp : List Piece = side_pieces (shown_side vars r rs) in
@@ -70,31 +100,43 @@ Starts-comparison vars l ls cmp r rs left can_left can_right =
     let rt : List ℕ = side_text vars (r ∷ rs) in
     let right = Starts-side vars r rs (10 ∷ left) left (line_end ∷ []) can_right (Stops-feed left) (Reads-feed left) in
     let middle = Starts-compare cmp (rt ++ (10 ∷ left)) left (rp ++ line_end ∷ []) (Reads-blank _ left _ right.reads) in
-    let whole = Starts-side vars l ls (32 ∷ (cmp_text cmp ++ (32 ∷ (rt ++ (10 ∷ left))))) left (compare cmp ∷ (rp ++ line_end ∷ [])) can_left (Stops-blank (cmp_text cmp ++ (32 ∷ (rt ++ (10 ∷ left))))) (Reads-blank _ left _ middle.reads) in
-    subst (λ (text : List ℕ). Starts text left ((lp ++ (compare cmp ∷ rp)) ++ line_end ∷ [])) (regroup_comparison (codes " ") lt (cmp_text cmp) rt (10 ∷ []) left)
-    (subst (λ (ps : List Piece). Starts (lt ++ (codes " " ++ (cmp_text cmp ++ (codes " " ++ (rt ++ (10 ∷ left)))))) left ps) (sym (append_assoc lp (compare cmp ∷ rp) (line_end ∷ []))) whole)
+    let whole = Starts-side vars l ls (32 ∷ (cmp_text cmp ++ (32 ∷ (rt ++ (10 ∷ left))))) left
+    (compare cmp ∷ (rp ++ line_end ∷ [])) can_left (Stops-blank (cmp_text cmp ++ (32 ∷ (rt ++ (10 ∷ left)))))
+    (Reads-blank _ left _ middle.reads) in
+    subst (λ (text : List ℕ). Starts text left ((lp ++ (compare cmp ∷ rp)) ++ line_end ∷ []))
+    (regroup_comparison (codes " ") lt (cmp_text cmp) rt (10 ∷ []) left)
+    (subst (λ (ps : List Piece). Starts (lt ++
+    (codes " " ++ (cmp_text cmp ++ (codes " " ++ (rt ++ (10 ∷ left)))))) left ps)
+    (sym (append_assoc lp (compare cmp ∷ rp) (line_end ∷ []))) whole)
 
 -- a comparison of two sides, and what it is
-record Compared (vars : List PlainVar) (ls : List PlainTerm) (cmp : Cmp) (rs : List PlainTerm) (left : List ℕ) : Type 0 where
+record Compared (vars : List PlainVar) (ls : List PlainTerm) (cmp : Cmp) (rs : List PlainTerm)
+    (left : List ℕ) : Type 0 where
   l : Side
   r : Side
-  starts : Starts (line ((((side_text vars ls ++ codes " ") ++ cmp_text cmp) ++ codes " ") ++ side_text vars rs) ++ left) left (line_pieces (comparison l cmp r))
+  starts : Starts (line ((((side_text vars ls ++ codes " ") ++ cmp_text cmp) ++ codes " ") ++ side_text vars rs)
+      ++ left) left (line_pieces (comparison l cmp r))
   left_terms : IsExpr (names_of vars) l ls
   right_terms : IsExpr (names_of vars) r rs
 
-compared : (vars : List PlainVar) (ls : List PlainTerm) (cmp : Cmp) (rs : List PlainTerm) (left : List ℕ) → All VarFits vars → ExprFits ls → ExprFits rs → All TermFits ls → All TermFits rs → NamesBelow (length vars) ls → NamesBelow (length vars) rs → Compared vars ls cmp rs left
+compared : (vars : List PlainVar) (ls : List PlainTerm) (cmp : Cmp) (rs : List PlainTerm) (left : List ℕ)
+    → All VarFits vars → ExprFits ls → ExprFits rs → All TermFits ls → All TermFits rs → NamesBelow (length vars) ls
+    → NamesBelow (length vars) rs → Compared vars ls cmp rs left
 compared vars [] cmp rs left fit sized_l sized_r fit_l fit_r below_l below_r = absurd (omega (arith, sized_l.some))
-compared vars (l ∷ ls) cmp [] left fit sized_l sized_r fit_l fit_r below_l below_r = absurd (omega (arith, sized_r.some))
+compared vars (l ∷ ls) cmp [] left fit sized_l sized_r fit_l fit_r below_l below_r =
+    absurd (omega (arith, sized_r.some))
 compared vars (l ∷ ls) cmp (r ∷ rs) left fit sized_l sized_r fit_l fit_r below_l below_r =
     record {
       l = shown_side vars l ls;
       r = shown_side vars r rs;
-      starts = Starts-comparison vars l ls cmp r rs left (CanSpell-all vars (l ∷ ls) fit fit_l below_l) (CanSpell-all vars (r ∷ rs) fit fit_r below_r);
+      starts = Starts-comparison vars l ls cmp r rs left (CanSpell-all vars (l ∷ ls) fit fit_l below_l)
+          (CanSpell-all vars (r ∷ rs) fit fit_r below_r);
       left_terms = IsExpr-shown vars l ls sized_l fit_l below_l;
       right_terms = IsExpr-shown vars r rs sized_r fit_r below_r;
     }
 
-begins_item : (b : Bool) (x : Quantity) (ps xs ys : List Piece) → begins_word ((((cond b (minus ∷ []) [] ++ quantity_pieces x) ++ ps) ++ xs) ++ ys) ≡ false
+begins_item : (b : Bool) (x : Quantity) (ps xs ys : List Piece)
+    → begins_word ((((cond b (minus ∷ []) [] ++ quantity_pieces x) ++ ps) ++ xs) ++ ys) ≡ false
 begins_item true x ps xs ys = refl
 begins_item false (constant n) ps xs ys = refl
 begins_item false (multiple n y) ps xs ys = refl
@@ -111,14 +153,22 @@ pub record ComparedAtom (vars : List PlainVar) (atom : Atom) (left : List ℕ) :
   pub compares : Compares (names_of vars) ps atom
   pub no_word : begins_word ps ≡ false
 
-pub compared_atom : (vars : List PlainVar) (atom : Atom) (left : List ℕ) → All VarFits vars → AtomFits atom → AtomNamesBelow (length vars) atom → ComparedAtom vars atom left
+pub compared_atom : (vars : List PlainVar) (atom : Atom) (left : List ℕ) → All VarFits vars → AtomFits atom
+    → AtomNamesBelow (length vars) atom → ComparedAtom vars atom left
 unfolding atom_text
 compared_atom vars atom left fit atom_fits below =
-    let sides = compared vars atom.left atom.cmp atom.right left fit atom_fits.left atom_fits.right atom_fits.left_terms atom_fits.right_terms below.left below.right in
+    let sides = compared vars atom.left atom.cmp atom.right left fit atom_fits.left atom_fits.right atom_fits.left_terms
+    atom_fits.right_terms below.left below.right in
     record {
       ps = line_pieces (comparison sides.l atom.cmp sides.r);
       starts = sides.starts;
-      compares = record { left = sides.l; right = sides.r; written = refl; left_terms = sides.left_terms; right_terms = sides.right_terms };
+      compares = record {
+        left = sides.l;
+        right = sides.r;
+        written = refl;
+        left_terms = sides.left_terms;
+        right_terms = sides.right_terms;
+      };
       no_word = begins_side sides.l (compare atom.cmp ∷ side_pieces sides.r) (line_end ∷ []);
     }
 
@@ -131,4 +181,9 @@ pub record DeclaredVar (v : PlainVar) (left : List ℕ) : Type 0 where
 
 pub declared_var : (v : PlainVar) (left : List ℕ) → VarFits v → DeclaredVar v left
 declared_var v left fits =
-    record { ps = line_pieces (declaration v.name (shown_integer v.lo) (shown_integer v.hi)); starts = Starts-declaration v left fits; declares = Declares-shown v fits; no_word = refl }
+    record {
+      ps = line_pieces (declaration v.name (shown_integer v.lo) (shown_integer v.hi));
+      starts = Starts-declaration v left fits;
+      declares = Declares-shown v fits;
+      no_word = refl;
+    }

@@ -1,5 +1,7 @@
 -- Names, numbers, signs and `var` at the front of a text.
-use Rattle.std.proofs.Common.{◌≡◌, ℕ, ◌+◌, ◌-◌, ◌*◌, ◌<◌, ◌≤◌, ◌^◌, Bool, true, false, cond, List, [], ◌∷◌, ◌++◌, length, refl, sym, ap, subst, ◌∙◌, arith, All, IsTrue, decimal, nat_lt, ◌%◌, length-append}
+use Rattle.std.proofs.Common.{◌≡◌, ℕ, ◌+◌, ◌-◌, ◌*◌, ◌<◌, ◌≤◌, ◌^◌, Bool, true, false, cond, List, [], ◌∷◌, ◌++◌}
+use Rattle.std.proofs.Common.{length, refl, sym, ap, subst, ◌∙◌, arith, All, IsTrue, decimal, nat_lt, ◌%◌}
+use Rattle.std.proofs.Common.{length-append}
 use Rattle.std.specs.Prelude.{◌||◌, ◌==◌, bytes_eq, codes}
 use Rattle.std.specs.List.{prefix_len}
 use Rattle.std.specs.Bool.{Decides}
@@ -17,7 +19,8 @@ use Rattle.lin_text.specs.Spelling.{cmp_text}
 use Rattle.lin_text.specs.Tokens.{token_length, kind_of, token_of, symbol_length}
 use Rattle.lin_text.specs.declared.token.TokenKind.{TokenKind}
 use Rattle.lin_text.specs.declared.token.TokenKind.TheVariants.{Name, Number, Symbol, Bad}
-use Rattle.lin_text.specs.Pieces.{Piece, var, word, name, number, plus, minus, times, compare, name_piece, symbol_piece, piece_of, number_of, is_word, is_last}
+use Rattle.lin_text.specs.Pieces.{Piece, var, word, name, number, plus, minus, times, compare, name_piece, symbol_piece}
+use Rattle.lin_text.specs.Pieces.{piece_of, number_of, is_word, is_last}
 use Rattle.lin_text.proofs.ReadBackTokens.{Reads, Starts, Starts-token, Token-front, prefix_len-all}
 
 -- no name and no number goes on with this text
@@ -75,53 +78,80 @@ name_kind b n e le =
     ap (λ (x : Bool). cond x (cond (nat_lt 64 n) Bad Name) (cond (is_digit b) Number (cond (n == 0) Bad Symbol))) e
     ∙ ap (λ (x : Bool). cond x Bad Name) (short n le)
 
-name-front : (b : ℕ) (bs rest : List ℕ) → IsName (b ∷ bs) → prefix_len is_name_byte rest ≡ 0 → Token-front b bs rest Name
+name-front : (b : ℕ) (bs rest : List ℕ) → IsName (b ∷ bs) → prefix_len is_name_byte rest ≡ 0
+    → Token-front b bs rest Name
 unfolding token_length piece_of
 name-front b bs rest is stops =
     let begins : is_name_start b ≡ true = is.starts in
-    let more : prefix_len is_name_byte (bs ++ rest) ≡ length bs = omega (arith, prefix_len-all is_name_byte bs rest (All-tail (λ b. IsTrue (is_name_byte b)) b bs is.goes_on), stops) in
+    let more : prefix_len is_name_byte (bs ++ rest)
+    ≡ length bs = omega (
+      arith,
+      prefix_len-all is_name_byte bs rest
+          (All-tail (λ b. IsTrue (is_name_byte b)) b bs is.goes_on),
+      stops,
+    ) in
     record {
       no_blank = name_start-blank b begins;
       counts = name_start-counts b begins;
       no_feed = (or_parts (is_feed b) (b == 35) (name_start-counts b begins)).0;
-      within = prefix_len-all is_in_line (b ∷ bs) rest (All-weaker (λ b. IsTrue (is_name_byte b)) (λ b. IsTrue (is_in_line b)) name_byte-in_line (b ∷ bs) is.goes_on);
-      long = ap (λ (x : Bool). cond x (1 + prefix_len is_name_byte (bs ++ rest)) (cond (is_digit b) (1 + prefix_len is_digit (bs ++ rest)) (symbol_length b (bs ++ rest)))) begins ∙ omega (arith, more);
-      shape = λ at. ap (λ (k : TokenKind). token_of k at (length (b ∷ bs))) (name_kind b (length (b ∷ bs)) begins is.short);
+      within = prefix_len-all is_in_line (b ∷ bs) rest
+          (All-weaker (λ b. IsTrue (is_name_byte b)) (λ b. IsTrue (is_in_line b)) name_byte-in_line
+          (b ∷ bs) is.goes_on);
+      long = ap (λ (x : Bool). cond x (1 + prefix_len is_name_byte (bs ++ rest))
+          (cond (is_digit b) (1 + prefix_len is_digit (bs ++ rest)) (symbol_length b (bs ++ rest)))) begins
+          ∙ omega (arith, more);
+      shape = λ at. ap (λ (k : TokenKind). token_of k at (length (b ∷ bs)))
+          (name_kind b (length (b ∷ bs)) begins is.short);
       goes_on = ap is_last (name_is (b ∷ bs) is.free);
     }
 
 -- a name
-pub Starts-name : (x rest left : List ℕ) (ps : List Piece) → IsName x → prefix_len is_name_byte rest ≡ 0 → Reads rest left ps → Starts (x ++ rest) left (name x ∷ ps)
+pub Starts-name : (x rest left : List ℕ) (ps : List Piece) → IsName x → prefix_len is_name_byte rest ≡ 0
+    → Reads rest left ps → Starts (x ++ rest) left (name x ∷ ps)
 unfolding piece_of
 Starts-name [] rest left ps is stops r = absurd (let no : false ≡ true = is.starts in cc)
 Starts-name (b ∷ bs) rest left ps is stops r =
-    subst (λ (q : Piece). Starts (b ∷ (bs ++ rest)) left (q ∷ ps)) (name_is (b ∷ bs) is.free) (Starts-token b bs rest left Name ps (name-front b bs rest is stops) r)
+    subst (λ (q : Piece). Starts (b ∷ (bs ++ rest)) left (q ∷ ps)) (name_is (b ∷ bs) is.free)
+    (Starts-token b bs rest left Name ps (name-front b bs rest is stops) r)
 
 number_kind : (b n : ℕ) → is_digit b ≡ true → kind_of b n ≡ Number
 number_kind b n e =
-    ap (λ (x : Bool). cond x (cond (nat_lt 64 n) Bad Name) (cond (is_digit b) Number (cond (n == 0) Bad Symbol))) (digit-name_start b e)
+    ap (λ (x : Bool). cond x (cond (nat_lt 64 n) Bad Name) (cond (is_digit b) Number (cond (n == 0) Bad Symbol)))
+    (digit-name_start b e)
     ∙ ap (λ (x : Bool). cond x Number (cond (n == 0) Bad Symbol)) e
 
-number-front : (b : ℕ) (bs rest : List ℕ) → All (λ d. IsTrue (is_digit d)) (b ∷ bs) → prefix_len is_digit rest ≡ 0 → Token-front b bs rest Number
+number-front : (b : ℕ) (bs rest : List ℕ) → All (λ d. IsTrue (is_digit d)) (b ∷ bs) → prefix_len is_digit rest ≡ 0
+    → Token-front b bs rest Number
 unfolding token_length piece_of
 number-front b bs rest digits stops =
     let begins : is_digit b ≡ true = All-head (λ d. IsTrue (is_digit d)) b bs digits in
-    let more : prefix_len is_digit (bs ++ rest) ≡ length bs = omega (arith, prefix_len-all is_digit bs rest (All-tail (λ d. IsTrue (is_digit d)) b bs digits), stops) in
+    let more : prefix_len is_digit (bs ++ rest)
+    ≡ length bs = omega (
+      arith,
+      prefix_len-all is_digit bs rest (All-tail (λ d. IsTrue (is_digit d)) b bs digits),
+      stops,
+    ) in
     record {
       no_blank = digit-blank b begins;
       counts = digit-counts b begins;
       no_feed = (or_parts (is_feed b) (b == 35) (digit-counts b begins)).0;
-      within = prefix_len-all is_in_line (b ∷ bs) rest (All-weaker (λ d. IsTrue (is_digit d)) (λ d. IsTrue (is_in_line d)) digit-in_line (b ∷ bs) digits);
-      long = ap (λ (x : Bool). cond x (1 + prefix_len is_name_byte (bs ++ rest)) (cond (is_digit b) (1 + prefix_len is_digit (bs ++ rest)) (symbol_length b (bs ++ rest)))) (digit-name_start b begins)
-          ∙ (ap (λ (x : Bool). cond x (1 + prefix_len is_digit (bs ++ rest)) (symbol_length b (bs ++ rest))) begins ∙ omega (arith, more));
+      within = prefix_len-all is_in_line (b ∷ bs) rest
+          (All-weaker (λ d. IsTrue (is_digit d)) (λ d. IsTrue (is_in_line d)) digit-in_line (b ∷ bs) digits);
+      long = ap (λ (x : Bool). cond x (1 + prefix_len is_name_byte (bs ++ rest))
+          (cond (is_digit b) (1 + prefix_len is_digit (bs ++ rest)) (symbol_length b (bs ++ rest))))
+          (digit-name_start b begins)
+          ∙ (ap (λ (x : Bool). cond x (1 + prefix_len is_digit (bs ++ rest)) (symbol_length b (bs ++ rest))) begins
+          ∙ omega (arith, more));
       shape = λ at. ap (λ (k : TokenKind). token_of k at (length (b ∷ bs))) (number_kind b (length (b ∷ bs)) begins);
       goes_on = refl;
     }
 
-digits_first : (ds rest left : List ℕ) (ps : List Piece) → 0 < length ds → All (λ d. IsTrue (is_digit d)) ds → prefix_len is_digit rest ≡ 0 → Reads rest left ps → Starts (ds ++ rest) left (number (number_of ds) ∷ ps)
+digits_first : (ds rest left : List ℕ) (ps : List Piece) → 0 < length ds → All (λ d. IsTrue (is_digit d)) ds
+    → prefix_len is_digit rest ≡ 0 → Reads rest left ps → Starts (ds ++ rest) left (number (number_of ds) ∷ ps)
 unfolding piece_of
 digits_first [] rest left ps some digits stops r = absurd (omega (arith, some))
-digits_first (b ∷ bs) rest left ps some digits stops r = Starts-token b bs rest left Number ps (number-front b bs rest digits stops) r
+digits_first (b ∷ bs) rest left ps some digits stops r =
+    Starts-token b bs rest left Number ps (number-front b bs rest digits stops) r
 
 -- digits that are this number
 record AreDigits (n : ℕ) (ds : List ℕ) : Type 0 where
@@ -135,7 +165,12 @@ a_digit d lt = grind (arith, nat_tests)
 AreDigits-decimal : (n : ℕ) → n < 2 ^ 64 → AreDigits n (decimal n)
 AreDigits-decimal n small =
     decimal_by_steps AreDigits
-    (λ n lt. record { some = omega arith; digits = All-cons (λ d. IsTrue (is_digit d)) (48 + n) [] (a_digit n lt) (All-nil (λ d. IsTrue (is_digit d))); value = omega arith })
+    (λ n lt. record {
+      some = omega arith;
+      digits =
+          All-cons (λ d. IsTrue (is_digit d)) (48 + n) [] (a_digit n lt) (All-nil (λ d. IsTrue (is_digit d)));
+      value = omega arith;
+    })
     (λ n ds _ front.
     record {
       some = omega (arith, length-append ds ((48 + n % 10) ∷ []));
@@ -145,36 +180,130 @@ AreDigits-decimal n small =
     n small
 
 -- a number
-pub Starts-number : (n : ℕ) (rest left : List ℕ) (ps : List Piece) → n < 2 ^ 64 → prefix_len is_digit rest ≡ 0 → Reads rest left ps → Starts (decimal n ++ rest) left (number n ∷ ps)
+pub Starts-number : (n : ℕ) (rest left : List ℕ) (ps : List Piece) → n < 2 ^ 64 → prefix_len is_digit rest ≡ 0
+    → Reads rest left ps → Starts (decimal n ++ rest) left (number n ∷ ps)
 Starts-number n rest left ps small stops r =
     let are = AreDigits-decimal n small in
-    subst (λ (m : ℕ). Starts (decimal n ++ rest) left (number m ∷ ps)) are.value (digits_first (decimal n) rest left ps are.some are.digits stops r)
+    subst (λ (m : ℕ). Starts (decimal n ++ rest) left (number m ∷ ps)) are.value
+    (digits_first (decimal n) rest left ps are.some are.digits stops r)
 
 -- the signs
 
 pub Starts-minus : (rest left : List ℕ) (ps : List Piece) → Reads rest left ps → Starts (45 ∷ rest) left (minus ∷ ps)
 unfolding piece_of symbol_piece token_length
-Starts-minus rest left ps r = Starts-token 45 [] rest left Symbol ps (record { no_blank = refl; counts = refl; no_feed = refl; within = refl; long = refl; shape = λ at. refl; goes_on = refl }) r
+Starts-minus rest left ps r = Starts-token 45 [] rest left Symbol ps
+    (record {
+      no_blank = refl;
+      counts = refl;
+      no_feed = refl;
+      within = refl;
+      long = refl;
+      shape = λ at. refl;
+      goes_on = refl;
+    }) r
 
 pub Starts-plus : (rest left : List ℕ) (ps : List Piece) → Reads rest left ps → Starts (43 ∷ rest) left (plus ∷ ps)
 unfolding piece_of symbol_piece token_length
-Starts-plus rest left ps r = Starts-token 43 [] rest left Symbol ps (record { no_blank = refl; counts = refl; no_feed = refl; within = refl; long = refl; shape = λ at. refl; goes_on = refl }) r
+Starts-plus rest left ps r = Starts-token 43 [] rest left Symbol ps
+    (record {
+      no_blank = refl;
+      counts = refl;
+      no_feed = refl;
+      within = refl;
+      long = refl;
+      shape = λ at. refl;
+      goes_on = refl;
+    }) r
 
 pub Starts-times : (rest left : List ℕ) (ps : List Piece) → Reads rest left ps → Starts (42 ∷ rest) left (times ∷ ps)
 unfolding piece_of symbol_piece token_length
-Starts-times rest left ps r = Starts-token 42 [] rest left Symbol ps (record { no_blank = refl; counts = refl; no_feed = refl; within = refl; long = refl; shape = λ at. refl; goes_on = refl }) r
+Starts-times rest left ps r = Starts-token 42 [] rest left Symbol ps
+    (record {
+      no_blank = refl;
+      counts = refl;
+      no_feed = refl;
+      within = refl;
+      long = refl;
+      shape = λ at. refl;
+      goes_on = refl;
+    }) r
 
 -- how two sides compare
-pub Starts-compare : (cmp : Cmp) (rest left : List ℕ) (ps : List Piece) → Reads (32 ∷ rest) left ps → Starts (cmp_text cmp ++ 32 ∷ rest) left (compare cmp ∷ ps)
+pub Starts-compare : (cmp : Cmp) (rest left : List ℕ) (ps : List Piece) → Reads (32 ∷ rest) left ps
+    → Starts (cmp_text cmp ++ 32 ∷ rest) left (compare cmp ∷ ps)
 unfolding piece_of symbol_piece token_length cmp_text
-Starts-compare Le rest left ps r = Starts-token 60 (61 ∷ []) (32 ∷ rest) left Symbol ps (record { no_blank = refl; counts = refl; no_feed = refl; within = omega arith; long = refl; shape = λ at. refl; goes_on = refl }) r
-Starts-compare Lt rest left ps r = Starts-token 60 [] (32 ∷ rest) left Symbol ps (record { no_blank = refl; counts = refl; no_feed = refl; within = omega arith; long = refl; shape = λ at. refl; goes_on = refl }) r
-Starts-compare Ge rest left ps r = Starts-token 62 (61 ∷ []) (32 ∷ rest) left Symbol ps (record { no_blank = refl; counts = refl; no_feed = refl; within = omega arith; long = refl; shape = λ at. refl; goes_on = refl }) r
-Starts-compare Gt rest left ps r = Starts-token 62 [] (32 ∷ rest) left Symbol ps (record { no_blank = refl; counts = refl; no_feed = refl; within = omega arith; long = refl; shape = λ at. refl; goes_on = refl }) r
-Starts-compare Eq rest left ps r = Starts-token 61 [] (32 ∷ rest) left Symbol ps (record { no_blank = refl; counts = refl; no_feed = refl; within = omega arith; long = refl; shape = λ at. refl; goes_on = refl }) r
-Starts-compare Ne rest left ps r = Starts-token 33 (61 ∷ []) (32 ∷ rest) left Symbol ps (record { no_blank = refl; counts = refl; no_feed = refl; within = omega arith; long = refl; shape = λ at. refl; goes_on = refl }) r
+Starts-compare Le rest left ps r = Starts-token 60 (61 ∷ []) (32 ∷ rest) left Symbol ps
+    (record {
+      no_blank = refl;
+      counts = refl;
+      no_feed = refl;
+      within = omega arith;
+      long = refl;
+      shape = λ at. refl;
+      goes_on = refl;
+    }) r
+Starts-compare Lt rest left ps r = Starts-token 60 [] (32 ∷ rest) left Symbol ps
+    (record {
+      no_blank = refl;
+      counts = refl;
+      no_feed = refl;
+      within = omega arith;
+      long = refl;
+      shape = λ at. refl;
+      goes_on = refl;
+    }) r
+Starts-compare Ge rest left ps r = Starts-token 62 (61 ∷ []) (32 ∷ rest) left Symbol ps
+    (record {
+      no_blank = refl;
+      counts = refl;
+      no_feed = refl;
+      within = omega arith;
+      long = refl;
+      shape = λ at. refl;
+      goes_on = refl;
+    }) r
+Starts-compare Gt rest left ps r = Starts-token 62 [] (32 ∷ rest) left Symbol ps
+    (record {
+      no_blank = refl;
+      counts = refl;
+      no_feed = refl;
+      within = omega arith;
+      long = refl;
+      shape = λ at. refl;
+      goes_on = refl;
+    }) r
+Starts-compare Eq rest left ps r = Starts-token 61 [] (32 ∷ rest) left Symbol ps
+    (record {
+      no_blank = refl;
+      counts = refl;
+      no_feed = refl;
+      within = omega arith;
+      long = refl;
+      shape = λ at. refl;
+      goes_on = refl;
+    }) r
+Starts-compare Ne rest left ps r = Starts-token 33 (61 ∷ []) (32 ∷ rest) left Symbol ps
+    (record {
+      no_blank = refl;
+      counts = refl;
+      no_feed = refl;
+      within = omega arith;
+      long = refl;
+      shape = λ at. refl;
+      goes_on = refl;
+    }) r
 
 -- what begins a declaration
-pub Starts-var : (rest left : List ℕ) (ps : List Piece) → Reads (32 ∷ rest) left ps → Starts (codes "var " ++ rest) left (var ∷ ps)
+pub Starts-var : (rest left : List ℕ) (ps : List Piece) → Reads (32 ∷ rest) left ps
+    → Starts (codes "var " ++ rest) left (var ∷ ps)
 unfolding piece_of name_piece token_length
-Starts-var rest left ps r = Starts-token 118 (97 ∷ 114 ∷ []) (32 ∷ rest) left Name ps (record { no_blank = refl; counts = refl; no_feed = refl; within = omega arith; long = omega arith; shape = λ at. refl; goes_on = refl }) r
+Starts-var rest left ps r = Starts-token 118 (97 ∷ 114 ∷ []) (32 ∷ rest) left Name ps
+    (record {
+      no_blank = refl;
+      counts = refl;
+      no_feed = refl;
+      within = omega arith;
+      long = omega arith;
+      shape = λ at. refl;
+      goes_on = refl;
+    }) r

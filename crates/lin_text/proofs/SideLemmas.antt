@@ -1,5 +1,6 @@
 -- A side that is read item by item.
-use Rattle.std.proofs.Common.{◌≡◌, ℕ, ◌-◌, ◌+◌, ◌<◌, ◌≤◌, suc, Bool, true, false, cond, List, [], ◌∷◌, ◌++◌, refl, sym, ap, ◌∙◌, append_assoc, arith}
+use Rattle.std.proofs.Common.{◌≡◌, ℕ, ◌-◌, ◌+◌, ◌<◌, ◌≤◌, suc, Bool, true, false, cond, List, [], ◌∷◌, ◌++◌, refl, sym}
+use Rattle.std.proofs.Common.{ap, ◌∙◌, append_assoc, arith}
 use Rattle.std.specs.Prelude.{Result, Ok, Err, IsErrAnd}
 use Rattle.lin_model.specs.Terms.{PlainTerm}
 use Rattle.lin_text.specs.declared.refusal.Fault.{Fault}
@@ -13,9 +14,10 @@ abbrev pub behind : List PlainTerm → Result (List PlainTerm × ℕ) Fault → 
 behind front read = read >>= λ more. Ok (front ++ more.0, more.1)
 
 -- a fault that was passed on
-pub Gives-fault : {X : Type 0} (r : Result X ReadError) (read : Result X Fault) (f : Fault) → IsErrAnd r (λ e. e ≡ errors.Fault f) → read ≡ Err f → Gives r read
+pub Gives-fault : {X : Type 0} (r : Result X ReadError) (read : Result X Fault) (f : Fault)
+    → IsErrAnd r (λ e. e ≡ errors.Fault f) → read ≡ Err f → Gives r read
 Gives-fault (Ok x) read f h e = absurd h
-Gives-fault (Err errors.Memory) read f h e = tt
+Gives-fault (Err errors.NoMemory) read f h e = tt
 Gives-fault (Err (errors.Fault g)) read f h e = e ∙ sym (let same : g ≡ f = cc in ap Err same)
 
 -- what one item more gives
@@ -23,35 +25,55 @@ module _ (p : Bool) (bytes : List ℕ) (names : List (List ℕ)) (subtracted : B
   abbrev items : ℕ → Result (List PlainTerm × ℕ) Fault
   items n = items_at n p bytes names subtracted at
 
-  pub behind-fault : (front : List PlainTerm) (k : ℕ) (f : Fault) → k < 64 → item_at p bytes names subtracted at ≡ Err f → behind front (items (64 - k)) ≡ Err f
+  pub behind-fault : (front : List PlainTerm) (k : ℕ) (f : Fault) → k < 64 → item_at p bytes names subtracted at ≡ Err f
+      → behind front (items (64 - k)) ≡ Err f
   unfolding items_at
   behind-fault front k f lt e =
       rw (let more : 64 - k ≡ suc (63 - k) = omega arith in more, e) refl
 
-  pub behind-last : (front : List PlainTerm) (k : ℕ) (t : PlainTerm) (to : ℕ) (l : Lexeme) → k < 64 → item_at p bytes names subtracted at ≡ Ok (t, to) → l ≡ lexeme_at p bytes to → is_joint l.class ≡ false → behind front (items (64 - k)) ≡ Ok (front ++ t ∷ [], to)
+  pub behind-last : (front : List PlainTerm) (k : ℕ) (t : PlainTerm) (to : ℕ) (l : Lexeme) → k < 64
+      → item_at p bytes names subtracted at ≡ Ok (t, to) → l ≡ lexeme_at p bytes to → is_joint l.class ≡ false
+      → behind front (items (64 - k)) ≡ Ok (front ++ t ∷ [], to)
   unfolding items_at
   behind-last front k t to l lt e is none =
       rw (let more : 64 - k ≡ suc (63 - k) = omega arith in more, e)
-      (ap (λ (m : Lexeme). behind front (cond (is_joint m.class) (items_at (63 - k) p bytes names (is_minus m.class) m.to >>= λ later. Ok (t ∷ later.0, later.1)) (Ok (t ∷ [], to)))) (sym is)
-      ∙ ap (λ (b : Bool). behind front (cond b (items_at (63 - k) p bytes names (is_minus l.class) l.to >>= λ later. Ok (t ∷ later.0, later.1)) (Ok (t ∷ [], to)))) none)
+      (ap (λ (m : Lexeme). behind front (cond (is_joint m.class)
+      (items_at (63 - k) p bytes names (is_minus m.class) m.to >>= λ later. Ok (t ∷ later.0, later.1))
+      (Ok (t ∷ [], to)))) (sym is)
+      ∙ ap (λ (b : Bool). behind front (cond b
+      (items_at (63 - k) p bytes names (is_minus l.class) l.to >>= λ later. Ok (t ∷ later.0, later.1))
+      (Ok (t ∷ [], to)))) none)
 
-  behind-push : (front : List PlainTerm) (t : PlainTerm) (r : Result (List PlainTerm × ℕ) Fault) → behind front (r >>= λ later. Ok (t ∷ later.0, later.1)) ≡ behind (front ++ t ∷ []) r
+  behind-push : (front : List PlainTerm) (t : PlainTerm) (r : Result (List PlainTerm × ℕ) Fault)
+      → behind front (r >>= λ later. Ok (t ∷ later.0, later.1)) ≡ behind (front ++ t ∷ []) r
   behind-push front t (Ok x) = ap (λ (ts : List PlainTerm). Ok (ts, x.1)) (sym (append_assoc front (t ∷ []) x.0))
   behind-push front t (Err e) = refl
 
-  pub behind-more : (front : List PlainTerm) (k : ℕ) (t : PlainTerm) (to : ℕ) (l : Lexeme) → k < 64 → item_at p bytes names subtracted at ≡ Ok (t, to) → l ≡ lexeme_at p bytes to → is_joint l.class ≡ true → behind front (items (64 - k)) ≡ behind (front ++ t ∷ []) (items_at (64 - (k + 1)) p bytes names (is_minus l.class) l.to)
+  pub behind-more : (front : List PlainTerm) (k : ℕ) (t : PlainTerm) (to : ℕ) (l : Lexeme) → k < 64
+      → item_at p bytes names subtracted at ≡ Ok (t, to) → l ≡ lexeme_at p bytes to → is_joint l.class ≡ true
+      → behind front (items (64 - k)) ≡ behind (front ++ t ∷ [])
+      (items_at (64 - (k + 1)) p bytes names (is_minus l.class) l.to)
   unfolding items_at
   behind-more front k t to l lt e is some =
       rw (let more : 64 - k ≡ suc (63 - k) = omega arith in more, e)
-      (ap (λ (m : Lexeme). behind front (cond (is_joint m.class) (items_at (63 - k) p bytes names (is_minus m.class) m.to >>= λ later. Ok (t ∷ later.0, later.1)) (Ok (t ∷ [], to)))) (sym is)
-      ∙ ap (λ (b : Bool). behind front (cond b (items_at (63 - k) p bytes names (is_minus l.class) l.to >>= λ later. Ok (t ∷ later.0, later.1)) (Ok (t ∷ [], to)))) some
+      (ap (λ (m : Lexeme). behind front (cond (is_joint m.class)
+      (items_at (63 - k) p bytes names (is_minus m.class) m.to >>= λ later. Ok (t ∷ later.0, later.1))
+      (Ok (t ∷ [], to)))) (sym is)
+      ∙ ap (λ (b : Bool). behind front (cond b
+      (items_at (63 - k) p bytes names (is_minus l.class) l.to >>= λ later. Ok (t ∷ later.0, later.1))
+      (Ok (t ∷ [], to)))) some
       ∙ behind-push front t _
-      ∙ ap (λ (n : ℕ). behind (front ++ t ∷ []) (items_at n p bytes names (is_minus l.class) l.to)) (let less : 63 - k ≡ 64 - (k + 1) = omega arith in less))
+      ∙ ap (λ (n : ℕ). behind (front ++ t ∷ []) (items_at n p bytes names (is_minus l.class) l.to))
+      (let less : 63 - k ≡ 64 - (k + 1) = omega arith in less))
 
-  pub behind-full : (front : List PlainTerm) (k : ℕ) (l : Lexeme) → 64 ≤ k → l ≡ lexeme_at p bytes at → behind front (items (64 - k)) ≡ Err (full_at l)
+  pub behind-full : (front : List PlainTerm) (k : ℕ) (l : Lexeme) → 64 ≤ k → l ≡ lexeme_at p bytes at
+      → behind front (items (64 - k)) ≡ Err (full_at l)
   unfolding items_at
   behind-full front k l le is = rw (let none_left : 64 - k ≡ 0 = omega arith in none_left, is) refl
 
-  pub behind-next : (front after : List PlainTerm) (k j : ℕ) (t : PlainTerm) (to : ℕ) (l : Lexeme) (m : Bool) → k < 64 → item_at p bytes names subtracted at ≡ Ok (t, to) → l ≡ lexeme_at p bytes to → is_joint l.class ≡ true → after ≡ front ++ t ∷ [] → j ≡ k + 1 → m ≡ is_minus l.class → behind after (items_at (64 - j) p bytes names m l.to) ≡ behind front (items (64 - k))
+  pub behind-next : (front after : List PlainTerm) (k j : ℕ) (t : PlainTerm) (to : ℕ) (l : Lexeme) (m : Bool) → k < 64
+      → item_at p bytes names subtracted at ≡ Ok (t, to) → l ≡ lexeme_at p bytes to → is_joint l.class ≡ true
+      → after ≡ front ++ t ∷ [] → j ≡ k + 1 → m ≡ is_minus l.class
+      → behind after (items_at (64 - j) p bytes names m l.to) ≡ behind front (items (64 - k))
   behind-next front after k j t to l m lt e is some pushed counted minus =
       rw (pushed, counted, minus) (sym (behind-more front k t to l lt e is some))

@@ -11,12 +11,16 @@ use Rattle.lin_text.proofs.UniqueTokens.{AreLines-once}
 use Rattle.lin_text.proofs.UniqueTerms.{Distinct-front, Declares-once, Compares-once, Declares-no_comparison}
 
 -- what the lines declare and compare, where the variables of one reading are distinct
-meaning-once : (above : List PlainVar) (lines : List PlainLine) (vars ws : List PlainVar) (atoms bs : List Atom) → AllPairs Differ (above ++ vars) → AreDeclaredAndCompared above lines vars atoms → AreDeclaredAndCompared above lines ws bs → (vars ≡ ws) × (atoms ≡ bs)
+meaning-once : (above : List PlainVar) (lines : List PlainLine) (vars ws : List PlainVar) (atoms bs : List Atom)
+    → AllPairs Differ (above ++ vars) → AreDeclaredAndCompared above lines vars atoms
+    → AreDeclaredAndCompared above lines ws bs → (vars ≡ ws) × (atoms ≡ bs)
 meaning-once above [] vars ws atoms bs differ a b = (a.0 ∙ sym b.0, a.1 ∙ sym b.1)
 meaning-once above (line ∷ lines) vars ws atoms bs differ (inl (v, vs, e, d, more)) (inl (w, us, f, c, less)) =
     let same : v ≡ w = Declares-once (pieces line.tokens) v w d c in
-    let apart : AllPairs Differ ((above ++ v ∷ []) ++ vs) = subst (λ (xs : List PlainVar). AllPairs Differ xs) (ap (λ (xs : List PlainVar). above ++ xs) e ∙ sym (append_assoc above (v ∷ []) vs)) differ in
-    let rest = meaning-once (above ++ v ∷ []) lines vs us atoms bs apart more (subst (λ (u : PlainVar). AreDeclaredAndCompared (above ++ u ∷ []) lines us bs) (sym same) less) in
+    let apart : AllPairs Differ ((above ++ v ∷ []) ++ vs) = subst (λ (xs : List PlainVar). AllPairs Differ xs)
+    (ap (λ (xs : List PlainVar). above ++ xs) e ∙ sym (append_assoc above (v ∷ []) vs)) differ in
+    let rest = meaning-once (above ++ v ∷ []) lines vs us atoms bs apart more
+    (subst (λ (u : PlainVar). AreDeclaredAndCompared (above ++ u ∷ []) lines us bs) (sym same) less) in
     (e ∙ (ap (λ (u : PlainVar). u ∷ vs) same ∙ (ap (λ (xs : List PlainVar). w ∷ xs) rest.0 ∙ sym f)), rest.1)
 meaning-once above (line ∷ lines) vars ws atoms bs differ (inl (v, vs, e, d, more)) (inr (b, us, f, c, less)) =
     absurd (Declares-no_comparison (names_of above) (pieces line.tokens) v b d c)
@@ -29,7 +33,8 @@ meaning-once above (line ∷ lines) vars ws atoms bs differ (inr (a, us, e, c, m
 
 same_condition : (q r : PlainCondition) → q.vars ≡ r.vars → q.atoms ≡ r.atoms → q ≡ r
 same_condition q r v a =
-    ap (λ (vs : List PlainVar). record { vars = vs; atoms = q.atoms }) v ∙ ap (λ (bs : List Atom). record { vars = r.vars; atoms = bs }) a
+    ap (λ (vs : List PlainVar). record { vars = vs; atoms = q.atoms }) v
+    ∙ ap (λ (bs : List Atom). record { vars = r.vars; atoms = bs }) a
 
 Spell-once : (lines : List PlainLine) (q r : PlainCondition) → Spell lines q → Spell lines r → q ≡ r
 Spell-once lines q r a b =
@@ -39,6 +44,7 @@ Spell-once lines q r a b =
 pub Spells-once : SpelledOnce
 Spells-once in_proof bytes at q r e f a b =
     let same : b.lines ≡ a.lines = AreLines-once in_proof bytes at b.lines a.lines b.are a.are in (
-      Spell-once (query_lines a.lines) q r a.spelled (subst (λ (ls : List PlainLine). Spell (query_lines ls) r) same b.spelled),
+      Spell-once (query_lines a.lines) q r a.spelled
+          (subst (λ (ls : List PlainLine). Spell (query_lines ls) r) same b.spelled),
       a.ends ∙ (sym (ap (query_end bytes) same) ∙ sym b.ends),
     )

@@ -1,10 +1,18 @@
 -- The faults of a query's text: for each kind at which tokens it stands, and which one is answered.
-use Rattle.std.specs.Prelude.{◌≡◌, ℕ, ◌^◌, ◌<◌, ◌≤◌, Bool, true, false, ◌⊎◌, List, [], ◌∷◌, ◌++◌, flat_map, count_by, Contains, IsTrue, IsFalse, MatchBool, ◌<ℤ◌}
+use Rattle.std.specs.Prelude.{◌≡◌, ℕ, ◌<◌, ◌≤◌, Bool, true, false, ◌⊎◌, List, [], ◌∷◌, ◌++◌, flat_map, count_by}
+use Rattle.std.specs.Prelude.{Contains, IsTrue, IsFalse, MatchBool, ◌<ℤ◌}
 use Rattle.lin_model.specs.declared.atom.Cmp.{Cmp}
+use Rattle.lin_model.specs.declared.condition.TheConstants.{MAX_VARS, MAX_ATOMS}
+use Rattle.lin_model.specs.declared.term.TheConstants.{MAX_FACTOR, MAX_CONSTANT, MAX_TERMS}
+use Rattle.lin_model.specs.declared.var.TheConstants.{MAX_BOUND}
 use Rattle.lin_text.specs.declared.fault.TextKind.{TextKind}
-use Rattle.lin_text.specs.declared.fault.TextKind.TheVariants.{Token, Syntax, NumberTooLarge, UnknownName, NameTwice, EmptyRange, TooManyVars, TooManyAtoms, TooManyTerms, NoMemory}
-use Rattle.lin_text.specs.Pieces.{Piece, var, word, name, number, minus, times, compare, bad, line_end, PlainToken, PlainLine, pieces}
-use Rattle.lin_text.specs.Grammar.{Integer, Side, integer_pieces, integer_value, side_pieces, item_count, joint, BeginsLine}
+use Rattle.lin_text.specs.declared.fault.TextKind.TheVariants.{Token, Syntax, NumberTooLarge, UnknownName, NameTwice}
+use Rattle.lin_text.specs.declared.fault.TextKind.TheVariants.{EmptyRange, TooManyVars, TooManyAtoms, TooManyTerms}
+use Rattle.lin_text.specs.declared.fault.TextKind.TheVariants.{NoMemory}
+use Rattle.lin_text.specs.Pieces.{Piece, var, word, name, number, minus, times, compare, bad, line_end, PlainToken}
+use Rattle.lin_text.specs.Pieces.{PlainLine, pieces}
+use Rattle.lin_text.specs.Grammar.{Integer, Side, integer_pieces, integer_value, side_pieces, item_count, joint}
+use Rattle.lin_text.specs.Grammar.{BeginsLine}
 
 -- a line that begins with the word `var`
 abbrev pub begins_variable : List Piece → Bool
@@ -57,19 +65,20 @@ atom_count = count_by (λ line. begins_comparison (pieces line.tokens))
 abbrev pub EndsBeforeSide : List Piece → Type 0
 EndsBeforeSide front = (front ≡ []) ⊎ ((left : Side) × (cmp : Cmp) × (front ≡ side_pieces left ++ compare cmp ∷ []))
 
--- the tokens end with a side of 64 items and the sign of one more
+-- the tokens end with a side of as many items as may be and the sign of one more
 pub record EndsInFullSide (front : List Piece) : Type 0 where
   pub before : List Piece
   pub side : Side
   pub subtracted : Bool
   pub starts : EndsBeforeSide before
-  pub full : item_count side ≡ 64
+  pub full : item_count side ≡ MAX_TERMS
   pub written : front ≡ before ++ side_pieces side ++ joint subtracted ∷ []
 
 -- a bound above 2^31, a constant above 2^40, or a number above 2^31 that a `*` follows
 abbrev pub IsTooLarge : List Piece → ℕ → List Piece → Type 0
 IsTooLarge front n after =
-    MatchBool (begins_variable front) (2 ^ 31 < n) (2 ^ 40 < n) ⊎ ((2 ^ 31 < n) × IsTrue (begins_times after))
+    MatchBool (begins_variable front) (MAX_FACTOR < n) (MAX_CONSTANT < n)
+    ⊎ ((MAX_FACTOR < n) × IsTrue (begins_times after))
 
 -- two integers, neither too large, the lower one above the upper one
 pub record IsEmptyRange (ps : List Piece) : Type 0 where
@@ -77,20 +86,23 @@ pub record IsEmptyRange (ps : List Piece) : Type 0 where
   pub hi : Integer
   pub more : List Piece
   pub written : ps ≡ integer_pieces lo ++ integer_pieces hi ++ more
-  pub lo_fits : lo.size ≤ 2 ^ 31
-  pub hi_fits : hi.size ≤ 2 ^ 31
+  pub lo_fits : lo.size ≤ MAX_BOUND
+  pub hi_fits : hi.size ≤ MAX_BOUND
   pub empty : integer_value hi <ℤ integer_value lo
 
--- A fault of the kind stands at the token `p` of a line, which comes behind the tokens `front` of the line and before the tokens `after`. These are the lines of the query above it.
+-- A fault of the kind stands at the token `p` of a line, which comes behind the tokens `front` of the line and before
+-- the tokens `after`. These are the lines of the query above it.
 abbrev pub Stands : List PlainLine → List Piece → Piece → List Piece → TextKind → Type 0
-Stands above front p after TooManyVars = (front ≡ []) × (p ≡ var) × (variable_count above ≡ 64)
-Stands above front p after TooManyAtoms = (front ≡ []) × IsTrue (begins_atom p) × (atom_count above ≡ 256)
+Stands above front p after TooManyVars = (front ≡ []) × (p ≡ var) × (variable_count above ≡ MAX_VARS)
+Stands above front p after TooManyAtoms = (front ≡ []) × IsTrue (begins_atom p) × (atom_count above ≡ MAX_ATOMS)
 Stands above front p after TooManyTerms = EndsInFullSide front × IsTrue (begins_item p)
 Stands above front p after Token = p ≡ bad
 Stands above front p after Syntax = ¬ BeginsLine (front ++ p ∷ [])
 Stands above front p after NumberTooLarge = (n : ℕ) × (p ≡ number n) × IsTooLarge front n after
-Stands above front p after UnknownName = (x : List ℕ) × (p ≡ name x) × IsFalse (begins_variable front) × ¬ Contains (declared_names above) x
-Stands above front p after NameTwice = (x : List ℕ) × (p ≡ name x) × (front ≡ var ∷ []) × Contains (declared_names above) x
+Stands above front p after UnknownName =
+    (x : List ℕ) × (p ≡ name x) × IsFalse (begins_variable front) × ¬ Contains (declared_names above) x
+Stands above front p after NameTwice =
+    (x : List ℕ) × (p ≡ name x) × (front ≡ var ∷ []) × Contains (declared_names above) x
 Stands above front p after EmptyRange = (x : List ℕ) × (front ≡ var ∷ name x ∷ []) × IsEmptyRange (p ∷ after)
 Stands above front p after NoMemory = ⊥
 

@@ -1,5 +1,6 @@
 -- The lines of a query as trees, the tokens with which a tree is written, and what it means.
-use Rattle.std.specs.Prelude.{◌≡◌, ℕ, ◌+◌, Bool, false, List, [], ◌∷◌, ◌++◌, length, flat_map, slice_get, ℤ, pos, neg_ℤ, ◌*ℤ◌, Option, Some, None, if◌then◌else◌}
+use Rattle.std.specs.Prelude.{◌≡◌, ℕ, ◌+◌, Bool, false, List, [], ◌∷◌, ◌++◌, length, flat_map, slice_get, ℤ, pos, neg_ℤ}
+use Rattle.std.specs.Prelude.{◌*ℤ◌, Option, Some, None, if◌then◌else◌}
 use Rattle.lin_model.specs.Terms.{PlainVar, PlainTerm, TermFits, VarFits, ExprFits}
 use Rattle.lin_model.specs.declared.atom.Atom.{Atom}
 use Rattle.lin_model.specs.declared.atom.Cmp.{Cmp}

@@ -11,7 +11,8 @@ use Rattle.lin_text.specs.Tokens.{IsForm, IsLongest, token_length}
 
 -- the plain spelling of a condition is spelled as that condition, to its end
 abbrev pub WrittenIsSpelled : Type 0
-WrittenIsSpelled = (q : PlainCondition) → IsCondition q → Spells false (condition_text q) 0 q (length (condition_text q))
+WrittenIsSpelled =
+    (q : PlainCondition) → IsCondition q → Spells false (condition_text q) 0 q (length (condition_text q))
 
 -- nothing is there, or the first line begins with a reserved word other than `var`
 abbrev pub EndsQuery : List ℕ → Type 0
@@ -20,21 +21,25 @@ EndsQuery rest = (rest ≡ []) ⊎ ((w : List ℕ) × ((first_token false rest 0
 -- so it is within a text, where the query ends behind it
 abbrev pub WrittenIsSpelledWithin : Type 0
 WrittenIsSpelledWithin =
-    (front rest : List ℕ) (q : PlainCondition) → IsCondition q → EndsQuery rest → Spells false (front ++ (condition_text q ++ rest)) (length front) q (length front + length (condition_text q))
+    (front rest : List ℕ) (q : PlainCondition) → IsCondition q → EndsQuery rest
+    → Spells false (front ++ (condition_text q ++ rest)) (length front) q (length front + length (condition_text q))
 
 -- a text spells one condition at most from a place on, and up to one place
 abbrev pub SpelledOnce : Type 0
 SpelledOnce =
-    (in_proof : Bool) (bytes : List ℕ) (at : ℕ) (q r : PlainCondition) (e f : ℕ) → Spells in_proof bytes at q e → Spells in_proof bytes at r f → (q ≡ r) × (e ≡ f)
+    (in_proof : Bool) (bytes : List ℕ) (at : ℕ) (q r : PlainCondition) (e f : ℕ) → Spells in_proof bytes at q e
+    → Spells in_proof bytes at r f → (q ≡ r) × (e ≡ f)
 
 -- a text that spells a condition has no fault
 abbrev pub SpelledHasNoFault : Type 0
 SpelledHasNoFault =
-    (in_proof : Bool) (bytes : List ℕ) (at : ℕ) (q : PlainCondition) (e : ℕ) → Spells in_proof bytes at q e → (kind : TextKind) (place : ℕ) → HasFault in_proof bytes at kind place → ⊥
+    (in_proof : Bool) (bytes : List ℕ) (at : ℕ) (q : PlainCondition) (e : ℕ) → Spells in_proof bytes at q e
+    → (kind : TextKind) (place : ℕ) → HasFault in_proof bytes at kind place → ⊥
 
 -- no fault stands in lines that spell a condition
 abbrev pub SpelledLinesHaveNoFault : Type 0
-SpelledLinesHaveNoFault = (lines : List PlainLine) (condition : PlainCondition) (kind : TextKind) (place : ℕ) → Spell lines condition → StandsAt lines kind place → ⊥
+SpelledLinesHaveNoFault = (lines : List PlainLine) (condition : PlainCondition) (kind : TextKind) (place : ℕ)
+    → Spell lines condition → StandsAt lines kind place → ⊥
 
 -- no line of a query begins or goes on with a reserved word other than `var`
 abbrev pub WordsStandInNoLine : Type 0
@@ -43,7 +48,8 @@ WordsStandInNoLine = (front : List Piece) (text : List ℕ) → ¬ BeginsLine (f
 -- a text has at most one first fault, at one place
 abbrev pub OneFirstFault : Type 0
 OneFirstFault =
-    (in_proof : Bool) (bytes : List ℕ) (at : ℕ) (k j : TextKind) (a b : ℕ) → HasFault in_proof bytes at k a → HasFault in_proof bytes at j b → (k ≡ j) × (a ≡ b)
+    (in_proof : Bool) (bytes : List ℕ) (at : ℕ) (k j : TextKind) (a b : ℕ) → HasFault in_proof bytes at k a
+    → HasFault in_proof bytes at j b → (k ≡ j) × (a ≡ b)
 
 -- the length of a token is that of the longest token at the front, and 0 exactly where none begins there
 pub record TakesTheLongest (bytes : List ℕ) : Type 0 where
@@ -58,4 +64,5 @@ TokensAreLongest = (bytes : List ℕ) → TakesTheLongest bytes
 abbrev pub SpelledOrFaulty : Type 0
 SpelledOrFaulty =
     (in_proof : Bool) (bytes : List ℕ) (at : ℕ) → at ≤ length bytes
-    → ((q : PlainCondition) × (end : ℕ) × Spells in_proof bytes at q end) ⊎ ((kind : TextKind) × (place : ℕ) × HasFault in_proof bytes at kind place)
+    → ((q : PlainCondition) × (end : ℕ) × Spells in_proof bytes at q end)
+    ⊎ ((kind : TextKind) × (place : ℕ) × HasFault in_proof bytes at kind place)

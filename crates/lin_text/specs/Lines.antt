@@ -1,5 +1,6 @@
 -- Bytes, lines and positions.
-use Rattle.std.specs.Prelude.{◌≡◌, ℕ, ◌+◌, ◌-◌, ◌≤◌, min, ◌⊎◌, slice_index, Bool, true, not, ◌||◌, ◌&&◌, ◌==◌, List, [], ◌∷◌, length, take, drop, count_by, if◌then◌else◌}
+use Rattle.std.specs.Prelude.{◌≡◌, ℕ, ◌+◌, ◌-◌, ◌≤◌, min, ◌⊎◌, slice_index, Bool, true, not, ◌||◌, ◌&&◌, ◌==◌, List, []}
+use Rattle.std.specs.Prelude.{◌∷◌, length, take, drop, count_by, if◌then◌else◌}
 use Rattle.std.specs.List.{prefix_len, suffix_len}
 
 -- a line feed, which ends a line
@@ -31,7 +32,8 @@ ends_or_comments (b ∷ bs) = is_feed b || b == 35
 unfoldable pub is_skipped : List ℕ → Bool
 is_skipped bytes = ends_or_comments (drop (prefix_len is_blank bytes) bytes)
 
--- the first place from `at` on at which a line begins that isn't skipped, or the end; `begins` tells whether a line begins at `at`
+-- the first place from `at` on at which a line begins that isn't skipped, or the end; `begins` says whether a line
+-- begins at `at`
 unfoldable pub first_line : Bool → ℕ → List ℕ → ℕ
 first_line begins at [] = at
 first_line begins at (b ∷ bs) = if begins && not (is_skipped (b ∷ bs)) then at else first_line (is_feed b) (at + 1) bs

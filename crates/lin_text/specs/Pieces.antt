@@ -1,5 +1,6 @@
 -- What a token means for the grammar, and the tokens of a line and of a text.
-use Rattle.std.specs.Prelude.{◌≡◌, ℕ, ◌+◌, ◌-◌, ◌*◌, ◌<◌, fold, Bool, true, false, ◌||◌, ◌&&◌, List, [], ◌∷◌, length, map, slice_range, bytes_eq, codes, MatchBool, if◌then◌else◌}
+use Rattle.std.specs.Prelude.{◌≡◌, ℕ, ◌+◌, ◌-◌, ◌*◌, ◌<◌, fold, Bool, true, false, ◌||◌, ◌&&◌, List, [], ◌∷◌, length}
+use Rattle.std.specs.Prelude.{map, slice_range, bytes_eq, codes, MatchBool, if◌then◌else◌}
 use Rattle.lin_model.specs.Names.{is_reserved}
 use Rattle.lin_model.specs.declared.atom.Cmp.{Cmp}
 use Rattle.lin_model.specs.declared.atom.Cmp.TheVariants.{Le, Lt, Ge, Gt, Eq, Ne}
@@ -32,7 +33,8 @@ is_word in_proof text = is_reserved text || (in_proof && is_claim_word text)
 
 -- what a name or a word is
 unfoldable pub name_piece : Bool → List ℕ → Piece
-name_piece in_proof text = if bytes_eq text (codes "var") then var else (if is_word in_proof text then word text else name text)
+name_piece in_proof text =
+    if bytes_eq text (codes "var") then var else (if is_word in_proof text then word text else name text)
 
 -- how a symbol compares, where it is none of the signs
 abbrev pub comparison_of : List ℕ → Cmp
@@ -70,7 +72,11 @@ pub record PlainToken : Type 0 where
 
 -- a token of a text, with what it is
 unfoldable pub plain_token : Bool → List ℕ → Token → PlainToken
-plain_token in_proof bytes t = record { from = t.from; to = t.to; piece = piece_of in_proof t.kind (slice_range bytes t.from t.to) }
+plain_token in_proof bytes t = record {
+  from = t.from;
+  to = t.to;
+  piece = piece_of in_proof t.kind (slice_range bytes t.from t.to);
+}
 
 -- the first token from a place on
 abbrev pub first_token : Bool → List ℕ → ℕ → PlainToken
@@ -85,7 +91,8 @@ is_last _ = false
 -- the tokens from a place on to the end of its line, which comes last, or to what is no token
 abbrev pub AreTokens : Bool → List ℕ → ℕ → List PlainToken → Type 0
 AreTokens in_proof bytes at [] = ⊥
-AreTokens in_proof bytes at (t ∷ ts) = (t ≡ first_token in_proof bytes at) × MatchBool (is_last t.piece) (ts ≡ []) (AreTokens in_proof bytes t.to ts)
+AreTokens in_proof bytes at (t ∷ ts) =
+    (t ≡ first_token in_proof bytes at) × MatchBool (is_last t.piece) (ts ≡ []) (AreTokens in_proof bytes t.to ts)
 
 -- a line that isn't skipped: where it starts, and its tokens
 pub record PlainLine : Type 0 where
@@ -100,4 +107,5 @@ pieces = map (λ t. t.piece)
 abbrev pub AreLines : Bool → List ℕ → ℕ → List PlainLine → Type 0
 AreLines in_proof bytes at [] = line_from bytes at ≡ length bytes
 AreLines in_proof bytes at (line ∷ lines) =
-    (line.start ≡ line_from bytes at) × (line.start < length bytes) × AreTokens in_proof bytes line.start line.tokens × AreLines in_proof bytes (line_below bytes line.start) lines
+    (line.start ≡ line_from bytes at) × (line.start < length bytes) × AreTokens in_proof bytes line.start line.tokens
+    × AreLines in_proof bytes (line_below bytes line.start) lines

@@ -4,6 +4,7 @@ use Rattle.std.specs.List.{take_while, prefix_len}
 use Rattle.lin_model.specs.Terms.{PlainVar}
 use Rattle.lin_model.specs.Conditions.{PlainCondition, Fits}
 use Rattle.lin_model.specs.declared.atom.Atom.{Atom}
+use Rattle.lin_model.specs.declared.condition.TheConstants.{MAX_VARS, MAX_ATOMS}
 use Rattle.lin_text.specs.declared.fault.TextKind.{TextKind}
 use Rattle.lin_text.specs.Pieces.{Piece, word, PlainLine, pieces, AreLines}
 use Rattle.lin_text.specs.Grammar.{Declares, Compares}
@@ -39,8 +40,10 @@ names_of = map (λ v. v.name)
 abbrev pub AreDeclaredAndCompared : List PlainVar → List PlainLine → List PlainVar → List Atom → Type 0
 AreDeclaredAndCompared above [] vars atoms = (vars ≡ []) × (atoms ≡ [])
 AreDeclaredAndCompared above (line ∷ lines) vars atoms =
-    ((v : PlainVar) × (more : List PlainVar) × (vars ≡ v ∷ more) × Declares (pieces line.tokens) v × AreDeclaredAndCompared (above ++ v ∷ []) lines more atoms)
-    ⊎ ((a : Atom) × (more : List Atom) × (atoms ≡ a ∷ more) × Compares (names_of above) (pieces line.tokens) a × AreDeclaredAndCompared above lines vars more)
+    ((v : PlainVar) × (more : List PlainVar) × (vars ≡ v ∷ more) × Declares (pieces line.tokens) v
+    × AreDeclaredAndCompared (above ++ v ∷ []) lines more atoms)
+    ⊎ ((a : Atom) × (more : List Atom) × (atoms ≡ a ∷ more) × Compares (names_of above) (pieces line.tokens) a
+    × AreDeclaredAndCompared above lines vars more)
 
 -- the lines of a query spell the condition
 pub record Spell (lines : List PlainLine) (q : PlainCondition) : Type 0 where
@@ -63,5 +66,5 @@ pub record HasFault (in_proof : Bool) (bytes : List ℕ) (at : ℕ) (kind : Text
 -- what the lines of a query declare and compare so far, with the names
 pub record IsDraft (names : List (List ℕ)) (vars : List PlainVar) (atoms : List Atom) : Type 0 where
   pub named : names ≡ names_of vars
-  pub few_vars : length vars ≤ 64
-  pub few_atoms : length atoms ≤ 256
+  pub few_vars : length vars ≤ MAX_VARS
+  pub few_atoms : length atoms ≤ MAX_ATOMS

@@ -1,16 +1,23 @@
 -- What the reader answers for a part of a line: a value with the place behind it, or the first fault.
-use Rattle.std.specs.Prelude.{◌≡◌, ℕ, ◌^◌, zero, suc, nat_lt, Bool, true, false, not, List, [], ◌∷◌, ◌++◌, ◌==◌, length, slice_range, bytes_eq, position, is_some, ℤ, pos, neg_ℤ, int_lt, Option, Some, None, Result, Ok, Err, if◌then◌else◌}
+use Rattle.std.specs.Prelude.{◌≡◌, ℕ, zero, suc, nat_lt, Bool, true, false, not, List, [], ◌∷◌, ◌++◌, ◌==◌, length}
+use Rattle.std.specs.Prelude.{slice_range, bytes_eq, position, is_some, ℤ, pos, neg_ℤ, int_lt, Option, Some, None}
+use Rattle.std.specs.Prelude.{Result, Ok, Err, if◌then◌else◌}
 use Rattle.lin_model.specs.Terms.{PlainTerm, PlainVar}
 use Rattle.lin_model.specs.Conditions.{PlainCondition}
 use Rattle.lin_model.specs.declared.atom.Atom.{Atom}
 use Rattle.lin_model.specs.declared.atom.Cmp.{Cmp}
+use Rattle.lin_model.specs.declared.condition.TheConstants.{MAX_VARS, MAX_ATOMS}
+use Rattle.lin_model.specs.declared.term.TheConstants.{MAX_FACTOR, MAX_CONSTANT, MAX_TERMS}
+use Rattle.lin_model.specs.declared.var.TheConstants.{MAX_BOUND}
 use Rattle.lin_text.specs.declared.fault.TextKind.{TextKind}
-use Rattle.lin_text.specs.declared.fault.TextKind.TheVariants.{Token, Syntax, NumberTooLarge, UnknownName, NameTwice, EmptyRange, TooManyVars, TooManyAtoms, TooManyTerms}
+use Rattle.lin_text.specs.declared.fault.TextKind.TheVariants.{Token, Syntax, NumberTooLarge, UnknownName, NameTwice}
+use Rattle.lin_text.specs.declared.fault.TextKind.TheVariants.{EmptyRange, TooManyVars, TooManyAtoms, TooManyTerms}
 use Rattle.lin_text.specs.declared.refusal.Fault.{Fault}
 use Rattle.lin_text.specs.declared.refusal.ReadError.{ReadError}
 use Rattle.lin_text.specs.declared.refusal.ReadError.TheVariants as errors
 use Rattle.lin_text.specs.declared.class.Class.{Class}
-use Rattle.lin_text.specs.declared.class.Class.TheVariants.{Var, Word, Name, Number, Plus, Minus, Times, Compare, Bad, LineEnd}
+use Rattle.lin_text.specs.declared.class.Class.TheVariants.{Var, Word, Name, Number, Plus, Minus, Times, Compare, Bad}
+use Rattle.lin_text.specs.declared.class.Class.TheVariants.{LineEnd}
 use Rattle.lin_text.specs.declared.class.Lexeme.{Lexeme}
 use Rattle.lin_text.specs.Pieces.{first_token}
 use Rattle.lin_text.specs.Classes.{shown}
@@ -23,10 +30,10 @@ abbrev pub ◌>>=◌ : {A B : Type 0} → Result A Fault → (A → Result B Fau
 (Ok x) >>= f = f x
 (Err e) >>= f = Err e
 
--- what a function that takes memory returned is what reading gives, unless memory ran out
+-- what a function that takes memory returned is what reading gives, unless that is `NoMemory`
 abbrev pub Gives : {X : Type 0} → Result X ReadError → Result X Fault → Type 0
 Gives (Ok x) read = read ≡ Ok x
-Gives (Err errors.Memory) read = Unit {0}
+Gives (Err errors.NoMemory) read = Unit {0}
 Gives (Err (errors.Fault f)) read = read ≡ Err f
 
 -- the first token from a place on, as the reader sees it
@@ -48,7 +55,7 @@ refusal l = fault_at (refusal_kind l.class) l.from
 
 -- the number of a bound, by the class of its token
 abbrev pub bound_by : Class → Lexeme → Result (ℤ × ℕ) Fault
-bound_by (Number n) l = if nat_lt (2 ^ 31) n then Err (fault_at NumberTooLarge l.from) else Ok (pos n, l.to)
+bound_by (Number n) l = if nat_lt MAX_BOUND n then Err (fault_at NumberTooLarge l.from) else Ok (pos n, l.to)
 bound_by _ l = Err (refusal l)
 
 -- the number of a bound
@@ -79,7 +86,8 @@ number_in names bytes l = position (bytes_eq (slice_range bytes l.from l.to)) na
 unfoldable pub free_name_at : Bool → List ℕ → List (List ℕ) → ℕ → Result (ℕ × ℕ) Fault
 free_name_at p bytes names at =
     let l = lexeme_at p bytes at in
-    if is_name_class l.class then (if is_some (number_in names bytes l) then Err (fault_at NameTwice l.from) else Ok (l.from, l.to)) else Err (refusal l)
+    if is_name_class l.class then (if is_some (number_in names bytes l) then Err (fault_at NameTwice l.from) else Ok
+    (l.from, l.to)) else Err (refusal l)
 
 -- two bounds, the lower one first
 unfoldable pub range_at : Bool → List ℕ → ℕ → Result (ℤ × ℤ × ℕ) Fault
@@ -112,7 +120,8 @@ variable_by (Some v) l factor = Ok (record { factor = factor; var = Some v }, l.
 
 -- a factor on the variable that a token names
 unfoldable pub variable_of : List ℕ → List (List ℕ) → Lexeme → ℤ → Result (PlainTerm × ℕ) Fault
-variable_of bytes names l factor = if is_name_class l.class then variable_by (number_in names bytes l) l factor else Err (refusal l)
+variable_of bytes names l factor =
+    if is_name_class l.class then variable_by (number_in names bytes l) l factor else Err (refusal l)
 
 -- a `*`
 abbrev pub is_times : Class → Bool
@@ -124,8 +133,10 @@ unfoldable pub number_at : Bool → List ℕ → List (List ℕ) → Bool → Le
 number_at p bytes names negative l n =
     let next = lexeme_at p bytes l.to in
     if is_times next.class
-    then (if nat_lt (2 ^ 31) n then Err (fault_at NumberTooLarge l.from) else variable_of bytes names (lexeme_at p bytes next.to) (signed negative n))
-    else (if nat_lt (2 ^ 40) n then Err (fault_at NumberTooLarge l.from) else Ok (record { factor = signed negative n; var = None }, l.to))
+    then (if nat_lt MAX_FACTOR n then Err (fault_at NumberTooLarge l.from) else variable_of bytes names
+    (lexeme_at p bytes next.to) (signed negative n))
+    else (if nat_lt MAX_CONSTANT n then Err (fault_at NumberTooLarge l.from) else Ok
+    (record { factor = signed negative n; var = None }, l.to))
 
 -- an item without the minus of its own, by the class of its first token
 abbrev pub quantity_by : Class → Bool → List ℕ → List (List ℕ) → Bool → Lexeme → Result (PlainTerm × ℕ) Fault
@@ -141,7 +152,8 @@ quantity_at p bytes names negative l = quantity_by l.class p bytes names negativ
 unfoldable pub item_at : Bool → List ℕ → List (List ℕ) → Bool → ℕ → Result (PlainTerm × ℕ) Fault
 item_at p bytes names subtracted at =
     let l = lexeme_at p bytes at in
-    if is_minus l.class then quantity_at p bytes names (not subtracted) (lexeme_at p bytes l.to) else quantity_at p bytes names subtracted l
+    if is_minus l.class then quantity_at p bytes names (not subtracted)
+    (lexeme_at p bytes l.to) else quantity_at p bytes names subtracted l
 
 -- a token with which an item begins
 abbrev pub begins_item_class : Class → Bool
@@ -172,7 +184,7 @@ items_at (suc n) p bytes names subtracted at =
 
 -- a side
 unfoldable pub side_at : Bool → List ℕ → List (List ℕ) → ℕ → Result (List PlainTerm × ℕ) Fault
-side_at p bytes names at = items_at 64 p bytes names false at
+side_at p bytes names at = items_at MAX_TERMS p bytes names false at
 
 -- how two sides compare, by the class of the token
 abbrev pub comparison_by : Class → Lexeme → Result (Cmp × ℕ) Fault
@@ -194,7 +206,8 @@ atom_at p bytes names at =
 
 -- a variable that a line declares behind the word `var`
 unfoldable pub variable_at : Bool → List ℕ → List (List ℕ) → ℕ → Result PlainVar Fault
-variable_at p bytes names at = declaration_at p bytes names at >>= λ d. Ok (record { name = slice_range bytes d.0 d.1; lo = d.2; hi = d.3 })
+variable_at p bytes names at =
+    declaration_at p bytes names at >>= λ d. Ok (record { name = slice_range bytes d.0 d.1; lo = d.2; hi = d.3 })
 
 -- the word `var`
 abbrev pub is_var_class : Class → Bool
@@ -221,15 +234,16 @@ full_query_at l = if begins_atom_class l.class then fault_at TooManyAtoms l.from
 -- what is declared and compared with one variable more, behind the word
 unfoldable pub var_line_at : Bool → List ℕ → PlainCondition → Lexeme → Result PlainCondition Fault
 var_line_at p bytes q word =
-    if length q.vars == 64 then Err (fault_at TooManyVars word.from) else
+    if length q.vars == MAX_VARS then Err (fault_at TooManyVars word.from) else
     (variable_at p bytes (names_of q.vars) word.to >>= λ v. Ok (record { vars = q.vars ++ v ∷ []; atoms = q.atoms }))
 
 -- what is declared and compared with one atom more, which begins with the token
 unfoldable pub atom_line_at : Bool → List ℕ → PlainCondition → Lexeme → ℕ → Result PlainCondition Fault
 atom_line_at p bytes q first start =
-    if length q.atoms == 256 then Err (full_query_at first) else
+    if length q.atoms == MAX_ATOMS then Err (full_query_at first) else
     (atom_at p bytes (names_of q.vars) start >>= λ a. Ok (record { vars = q.vars; atoms = q.atoms ++ a ∷ [] }))
 
 -- what is declared and compared with one line more, which begins with the token
 unfoldable pub line_at : Bool → List ℕ → PlainCondition → Lexeme → ℕ → Result PlainCondition Fault
-line_at p bytes q first start = if is_var_class first.class then var_line_at p bytes q first else atom_line_at p bytes q first start
+line_at p bytes q first start =
+    if is_var_class first.class then var_line_at p bytes q first else atom_line_at p bytes q first start

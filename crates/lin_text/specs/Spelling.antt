@@ -1,5 +1,6 @@
 -- The plain spelling: the one text that is written for a condition.
-use Rattle.std.specs.Prelude.{ℕ, Bool, true, false, if◌then◌else◌, ◌==◌, List, [], ◌∷◌, ◌++◌, map, flat_map, slice_index_or, ℤ, pos, negsuc, unsigned_abs, Option, Some, None, decimal, codes}
+use Rattle.std.specs.Prelude.{ℕ, Bool, true, false, if◌then◌else◌, ◌==◌, List, [], ◌∷◌, ◌++◌, map, flat_map}
+use Rattle.std.specs.Prelude.{slice_index_or, ℤ, pos, negsuc, unsigned_abs, Option, Some, None, decimal, codes}
 use Rattle.lin_model.specs.Terms.{PlainVar, PlainTerm}
 use Rattle.lin_model.specs.Conditions.{PlainCondition}
 use Rattle.lin_model.specs.declared.atom.Atom.{Atom}
@@ -60,7 +61,8 @@ cmp_text Ne = codes "!="
 
 -- a comparison, without the line feed
 unfoldable pub atom_text : List PlainVar → Atom → List ℕ
-atom_text vars atom = side_text vars atom.left ++ codes " " ++ cmp_text atom.cmp ++ codes " " ++ side_text vars atom.right
+atom_text vars atom =
+    side_text vars atom.left ++ codes " " ++ cmp_text atom.cmp ++ codes " " ++ side_text vars atom.right
 
 -- the bounds behind a name
 unfoldable pub bounds_text : ℤ → ℤ → List ℕ
@@ -76,4 +78,5 @@ line text = text ++ 10 ∷ []
 
 -- all declarations, and then all comparisons, each on a line of its own
 unfoldable pub condition_text : PlainCondition → List ℕ
-condition_text q = flat_map (λ var. line (var_text var)) q.vars ++ flat_map (λ atom. line (atom_text q.vars atom)) q.atoms
+condition_text q =
+    flat_map (λ var. line (var_text var)) q.vars ++ flat_map (λ atom. line (atom_text q.vars atom)) q.atoms

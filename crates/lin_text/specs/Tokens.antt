@@ -1,6 +1,8 @@
 -- The forms of tokens, and the longest match.
-use Rattle.std.specs.Prelude.{ℕ, ◌+◌, ◌<◌, ◌≤◌, nat_lt, Bool, false, ◌||◌, ◌&&◌, ◌==◌, ◌⊎◌, List, [], ◌∷◌, length, take, drop, slice_index, All, Contains, IsTrue, codes, if◌then◌else◌}
+use Rattle.std.specs.Prelude.{ℕ, ◌+◌, ◌<◌, ◌≤◌, nat_lt, Bool, false, ◌||◌, ◌&&◌, ◌==◌, ◌⊎◌, List, [], ◌∷◌, length, take}
+use Rattle.std.specs.Prelude.{drop, slice_index, All, Contains, IsTrue, codes, if◌then◌else◌}
 use Rattle.std.specs.List.{prefix_len}
+use Rattle.lin_model.specs.declared.name.TheConstants.{MAX_NAME}
 use Rattle.lin_model.specs.Names.{is_name_start, is_name_byte, is_digit}
 use Rattle.lin_text.specs.Lines.{is_feed, is_blank}
 use Rattle.lin_text.specs.declared.token.Token.{Token}
@@ -21,7 +23,8 @@ pub record IsNumberForm (text : List ℕ) : Type 0 where
 -- the symbols
 abbrev pub symbols : List (List ℕ)
 symbols =
-    codes "+" ∷ codes "-" ∷ codes "*" ∷ codes "<=" ∷ codes "<" ∷ codes ">=" ∷ codes ">" ∷ codes "=" ∷ codes "==" ∷ codes "!=" ∷ []
+    codes "+" ∷ codes "-" ∷ codes "*" ∷ codes "<=" ∷ codes "<" ∷ codes ">=" ∷ codes ">" ∷ codes "=" ∷ codes "==" ∷ codes
+    "!=" ∷ []
 
 -- the text is a name, of any length, a number or a symbol
 abbrev pub IsForm : List ℕ → Type 0
@@ -54,12 +57,14 @@ symbol_length b bs = if begins_pair b && begins_equal bs then 2 else (if is_symb
 unfoldable pub token_length : List ℕ → ℕ
 token_length [] = 0
 token_length (b ∷ bs) =
-    if is_name_start b then 1 + prefix_len is_name_byte bs else (if is_digit b then 1 + prefix_len is_digit bs else symbol_length b bs)
+    if is_name_start b then 1 + prefix_len is_name_byte bs else
+    (if is_digit b then 1 + prefix_len is_digit bs else symbol_length b bs)
 
 -- the kind of the token that begins with the byte and is so long
 abbrev pub kind_of : ℕ → ℕ → TokenKind
 kind_of b n =
-    if is_name_start b then (if nat_lt 64 n then Bad else Name) else (if is_digit b then Number else (if n == 0 then Bad else Symbol))
+    if is_name_start b then (if nat_lt MAX_NAME n then Bad else Name) else
+    (if is_digit b then Number else (if n == 0 then Bad else Symbol))
 
 -- nothing more on the line, or a byte that begins no token
 abbrev pub nothing_at : TokenKind → ℕ → Token

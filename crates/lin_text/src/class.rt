@@ -1,7 +1,8 @@
 //! What a token is for the grammar: which word, which sign, which number.
-ghost use Rattle.std.specs.Prelude.{◌≡◌, ◌≤◌, ◌+◌, ◌^◌, min, length, slice_range, bytes_eq};
+ghost use Rattle.std.specs.Prelude.{◌≡◌, ◌≤◌, ◌+◌, min, length, slice_range, bytes_eq};
 ghost use Rattle.lin_model.specs.Names.{IsName};
-ghost use Rattle.lin_text.specs.Pieces.{number_of, piece_of, comparison_of, name_piece, symbol_piece, is_word, is_claim_word, first_token};
+ghost use Rattle.lin_text.specs.Pieces.{number_of, piece_of, comparison_of, name_piece, symbol_piece, is_word};
+ghost use Rattle.lin_text.specs.Pieces.{is_claim_word, first_token};
 ghost use Rattle.lin_text.specs.Classes.{class_of, shown};
 
 use crate::token::{TokenKind, next_token};
@@ -34,11 +35,11 @@ pub struct Lexeme {
 }
 
 /// The least number that is beyond every limit.
-const TOO_LARGE: u64 = MAX_CONSTANT as u64 + 1;
+const TOO_LARGE: u64 = MAX_CONSTANT + 1;
 
 /// The number that the digits are, or the least that is beyond every limit.
 fn number_of(digits: &[u8]) -> u64
-    ensures { result ≡ min (number_of digits.now) (2 ^ 40 + 1) }
+    ensures { result ≡ min (number_of digits.now) (MAX_CONSTANT + 1) }
 {
     let mut number = 0;
     for digit in digits {

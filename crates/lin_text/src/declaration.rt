@@ -1,7 +1,8 @@
 //! A line that declares a variable: its name and its bounds.
-ghost use Rattle.std.specs.Prelude.{◌≡◌, ◌≤◌, ◌^◌, length, slice_range, position, bytes_eq, None, IfOk, pos, neg_ℤ, ◌≤ℤ◌};
+ghost use Rattle.std.specs.Prelude.{◌≡◌, ◌≤◌, length, slice_range, position, bytes_eq, None, IfOk, pos, neg_ℤ, ◌≤ℤ◌};
 ghost use Rattle.lin_model.specs.Names.{IsName};
-ghost use Rattle.lin_text.specs.Reading.{bound_of, integer_at, free_name_at, range_at, end_at, declaration_at, variable_at, Gives};
+ghost use Rattle.lin_text.specs.Reading.{bound_of, integer_at, free_name_at, range_at, end_at, declaration_at};
+ghost use Rattle.lin_text.specs.Reading.{variable_at, Gives};
 
 use crate::class::{Class, Lexeme, next_lexeme};
 use crate::fault::TextKind;
@@ -15,12 +16,12 @@ use std::alloc::Global;
 fn bound_of(token: Lexeme) -> Result<(i64, usize), Fault>
     ensures exact { result ≡ bound_of token }
     ensures low { IfOk result (λ r. pos 0 ≤ℤ r.0) }
-    ensures high { IfOk result (λ r. r.0 ≤ℤ pos (2 ^ 31)) }
+    ensures high { IfOk result (λ r. r.0 ≤ℤ pos MAX_BOUND) }
     ensures behind { IfOk result (λ r. r.1 ≡ token.to) }
 {
     match token.class {
         Class::Number(number) => {
-            if number > MAX_BOUND as u64 {
+            if number > MAX_BOUND {
                 return Err(fault_at(TextKind::NumberTooLarge, token.from));
             }
             Ok((number as i64, token.to))
@@ -34,8 +35,8 @@ fn bound_of(token: Lexeme) -> Result<(i64, usize), Fault>
 fn read_integer(bytes: &[u8], in_proof: bool, at: usize) -> Result<(i64, usize), Fault>
     requires { at ≤ length bytes.now }
     ensures exact { result ≡ integer_at in_proof bytes.now at }
-    ensures low { IfOk result (λ r. neg_ℤ (pos (2 ^ 31)) ≤ℤ r.0) }
-    ensures high { IfOk result (λ r. r.0 ≤ℤ pos (2 ^ 31)) }
+    ensures low { IfOk result (λ r. neg_ℤ (pos MAX_BOUND) ≤ℤ r.0) }
+    ensures high { IfOk result (λ r. r.0 ≤ℤ pos MAX_BOUND) }
     ensures within { IfOk result (λ r. r.1 ≤ length bytes.now) }
 {
     let token = next_lexeme(bytes, in_proof, at);
@@ -81,9 +82,9 @@ fn read_free_name(
 fn read_range(bytes: &[u8], in_proof: bool, at: usize) -> Result<(i64, i64, usize), Fault>
     requires { at ≤ length bytes.now }
     ensures exact { result ≡ range_at in_proof bytes.now at }
-    ensures low { IfOk result (λ r. neg_ℤ (pos (2 ^ 31)) ≤ℤ r.0) }
+    ensures low { IfOk result (λ r. neg_ℤ (pos MAX_BOUND) ≤ℤ r.0) }
     ensures order { IfOk result (λ r. r.0 ≤ℤ r.1) }
-    ensures high { IfOk result (λ r. r.1 ≤ℤ pos (2 ^ 31)) }
+    ensures high { IfOk result (λ r. r.1 ≤ℤ pos MAX_BOUND) }
     ensures within { IfOk result (λ r. r.2 ≤ length bytes.now) }
 {
     let (lo, behind) = read_integer(bytes, in_proof, at)?;
@@ -123,9 +124,9 @@ fn read_declaration(
     ensures places { IfOk result (λ r. r.0 ≤ r.1) }
     ensures name { IfOk result (λ r. IsName (slice_range bytes.now r.0 r.1)) }
     ensures free { IfOk result (λ r. position (bytes_eq (slice_range bytes.now r.0 r.1)) names.now ≡ None) }
-    ensures low { IfOk result (λ r. neg_ℤ (pos (2 ^ 31)) ≤ℤ r.2) }
+    ensures low { IfOk result (λ r. neg_ℤ (pos MAX_BOUND) ≤ℤ r.2) }
     ensures order { IfOk result (λ r. r.2 ≤ℤ r.3) }
-    ensures high { IfOk result (λ r. r.3 ≤ℤ pos (2 ^ 31)) }
+    ensures high { IfOk result (λ r. r.3 ≤ℤ pos MAX_BOUND) }
 {
     let (from, to) = read_free_name(bytes, in_proof, names, at)?;
     let (lo, hi, behind) = read_range(bytes, in_proof, to)?;

@@ -32,7 +32,7 @@ pub enum TextKind {
     /// The 65th term of a side.
     #[error("a side has at most 64 terms")]
     TooManyTerms,
-    /// Want of memory.
+    /// Memory ran out.
     #[error("out of memory")]
     NoMemory,
 }
@@ -90,7 +90,7 @@ pub enum SessionKind {
     /// As `TextKind::TooManyTerms`.
     #[error("a side has at most 64 terms")]
     TooManyTerms,
-    /// Want of memory.
+    /// Memory ran out.
     #[error("out of memory")]
     NoMemory,
 }

@@ -1,5 +1,7 @@
 //! Laws of the texts of conditions, each the contract of a function that does nothing.
-ghost use Rattle.lin_text.specs.Laws.{OneFirstFault, SpelledHasNoFault, SpelledLinesHaveNoFault, SpelledOnce, SpelledOrFaulty, TokensAreLongest, WordsStandInNoLine, WrittenIsSpelled, WrittenIsSpelledWithin};
+ghost use Rattle.lin_text.specs.Laws.{OneFirstFault, SpelledHasNoFault, SpelledLinesHaveNoFault, SpelledOnce};
+ghost use Rattle.lin_text.specs.Laws.{SpelledOrFaulty, TokensAreLongest, WordsStandInNoLine, WrittenIsSpelled};
+ghost use Rattle.lin_text.specs.Laws.{WrittenIsSpelledWithin};
 ghost use Rattle.lin_text.specs.LineLaws.{LinesAreInOrder, TokensMoveWithTheirText};
 
 /// What is written for a condition is spelled as that condition, in the sense of the grammar.
@@ -42,8 +44,8 @@ pub fn tokens_are_longest()
     ensures { TokensAreLongest }
 {}
 
-/// The lines of a text, and the tokens of a line, lie one behind the other; each place up to the end has its lines and its
-/// tokens, and there is one list of lines.
+/// The lines of a text, and the tokens of a line, lie one behind the other; each place up to the end has its lines and
+/// its tokens, and there is one list of lines.
 pub fn lines_are_in_order()
     ensures { LinesAreInOrder }
 {}

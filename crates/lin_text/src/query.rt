@@ -20,7 +20,7 @@ fn is_word(class: Class) -> bool
     matches!(class, Class::Word)
 }
 
-/// Reads the lines of a query from `start` on, as `read_query` does, and tells a fault by its place among
+/// Reads the lines of a query from `start` on, as `read_query` does, and names a fault by its place among
 /// the bytes.
 pub fn read_lines(
     alloc: Global,
@@ -52,7 +52,7 @@ pub fn read_lines(
 ///
 /// The fault at the least place is answered, with its line and its column from the start of the whole
 /// input; at one place the one that goes first: `TooManyVars`, `TooManyAtoms`, `TooManyTerms`, `Token`,
-/// `Syntax`, `NumberTooLarge`, `UnknownName`, `NameTwice`, `EmptyRange`. Want of memory is `NoMemory`.
+/// `Syntax`, `NumberTooLarge`, `UnknownName`, `NameTwice`, `EmptyRange`. Where memory runs out, `NoMemory` is answered.
 pub fn read_query(
     alloc: Global,
     bytes: &[u8],
@@ -66,7 +66,7 @@ pub fn read_query(
 {
     match read_lines(alloc, bytes, in_proof, at) {
         Ok(read) => Ok(read),
-        Err(ReadError::Memory) => Err(TextFault {
+        Err(ReadError::NoMemory) => Err(TextFault {
             line: 0,
             column: 0,
             kind: TextKind::NoMemory,

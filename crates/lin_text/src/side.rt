@@ -1,20 +1,21 @@
 //! The sides of a comparison, and whole comparisons.
-ghost use Rattle.std.specs.Prelude.{◌≡◌, ◌≤◌, ◌^◌, length, not, IfOk, pos, neg_ℤ, ◌≤ℤ◌, ℤ};
+ghost use Rattle.std.specs.Prelude.{◌≡◌, ◌≤◌, length, not, IfOk, pos, neg_ℤ, ◌≤ℤ◌, ℤ};
 ghost use Rattle.lin_model.specs.Terms.{TermFits};
 ghost use Rattle.lin_text.specs.Grammar.{signed};
-ghost use Rattle.lin_text.specs.Reading.{Gives, variable_of, number_at, quantity_at, item_at, full_at, is_joint, is_minus, side_at, comparison_at, atom_at, begins_item_class};
+ghost use Rattle.lin_text.specs.Reading.{Gives, variable_of, number_at, quantity_at, item_at, full_at, is_joint};
+ghost use Rattle.lin_text.specs.Reading.{is_minus, side_at, comparison_at, atom_at, begins_item_class};
 
 use crate::class::{Class, Lexeme, next_lexeme};
 use crate::declaration::read_end;
 use crate::fault::TextKind;
 use crate::names::Names;
 use crate::refusal::{Fault, ReadError, fault_at, refusal};
-use lin_model::{Atom, Cmp, Expr, MAX_CONSTANT, MAX_FACTOR, MAX_TERMS, Term};
+use lin_model::{Atom, Cmp, Expr, MAX_CONSTANT, MAX_FACTOR, MAX_TERMS, MAX_VARS, Term};
 use std::alloc::Global;
 
 /// The number, negated or not.
 fn signed(negative: bool, number: u64) -> i64
-    requires { number ≤ 2 ^ 40 }
+    requires { number ≤ MAX_CONSTANT }
     ensures { result ≡ signed negative number }
 {
     let number = number as i64;
@@ -31,9 +32,9 @@ fn variable_of(
 ) -> Result<(Term, usize), Fault>
     requires order { token.from ≤ token.to }
     requires within { token.to ≤ length bytes.now }
-    requires few { length names.now ≤ 64 }
-    requires low { neg_ℤ (pos (2 ^ 31)) ≤ℤ factor }
-    requires high { factor ≤ℤ pos (2 ^ 31) }
+    requires few { length names.now ≤ MAX_VARS }
+    requires low { neg_ℤ (pos MAX_FACTOR) ≤ℤ factor }
+    requires high { factor ≤ℤ pos MAX_FACTOR }
     ensures exact { result ≡ variable_of bytes.now names.now token factor }
     ensures within { IfOk result (λ r. r.1 ≤ length bytes.now) }
 {
@@ -57,21 +58,21 @@ fn read_number(
     number: u64,
 ) -> Result<(Term, usize), Fault>
     requires within { token.to ≤ length bytes.now }
-    requires few { length names.now ≤ 64 }
+    requires few { length names.now ≤ MAX_VARS }
     ensures exact { result ≡ number_at in_proof bytes.now names.now negative token number }
     ensures within { IfOk result (λ r. r.1 ≤ length bytes.now) }
 {
     let next = next_lexeme(bytes, in_proof, token.to);
     match next.class {
         Class::Times => {
-            if number > MAX_FACTOR as u64 {
+            if number > MAX_FACTOR {
                 return Err(fault_at(TextKind::NumberTooLarge, token.from));
             }
             let name = next_lexeme(bytes, in_proof, next.to);
             variable_of(bytes, names, name, signed(negative, number))
         }
         _ => {
-            if number > MAX_CONSTANT as u64 {
+            if number > MAX_CONSTANT {
                 return Err(fault_at(TextKind::NumberTooLarge, token.from));
             }
             Ok((Term::new(signed(negative, number), None), token.to))
@@ -90,7 +91,7 @@ fn read_quantity(
 ) -> Result<(Term, usize), Fault>
     requires order { token.from ≤ token.to }
     requires within { token.to ≤ length bytes.now }
-    requires few { length names.now ≤ 64 }
+    requires few { length names.now ≤ MAX_VARS }
     ensures exact { result ≡ quantity_at in_proof bytes.now names.now negative token }
     ensures within { IfOk result (λ r. r.1 ≤ length bytes.now) }
 {
@@ -111,7 +112,7 @@ fn read_item(
     at: usize,
 ) -> Result<(Term, usize), Fault>
     requires at { at ≤ length bytes.now }
-    requires few { length names.now ≤ 64 }
+    requires few { length names.now ≤ MAX_VARS }
     ensures exact { result ≡ item_at in_proof bytes.now names.now subtracted at }
     ensures within { IfOk result (λ r. r.1 ≤ length bytes.now) }
 {
@@ -166,7 +167,7 @@ pub fn read_side(
     start: usize,
 ) -> Result<(Expr, usize), ReadError>
     requires at { start ≤ length bytes.now }
-    requires few { length names.now ≤ 64 }
+    requires few { length names.now ≤ MAX_VARS }
     ensures exact { Gives result (side_at in_proof bytes.now names.now start) }
     ensures within { IfOk result (λ r. r.1 ≤ length bytes.now) }
 {
@@ -210,7 +211,7 @@ pub fn read_atom_line(
     at: usize,
 ) -> Result<Atom, ReadError>
     requires at { at ≤ length bytes.now }
-    requires few { length names.now ≤ 64 }
+    requires few { length names.now ≤ MAX_VARS }
     ensures { Gives result (atom_at in_proof bytes.now names.now at) }
 {
     let (left, behind) = read_side(alloc, bytes, in_proof, names, at)?;

@@ -1,6 +1,7 @@
 //! Tokens: names, numbers and symbols, each the longest that begins where it does.
 ghost use Rattle.std.specs.Prelude.{◌≡◌, ◌≤◌, ◌+◌, ◌<◌, ◌^◌, ◌∷◌, length};
-ghost use Rattle.lin_text.specs.Tokens.{token_length, symbol_length, begins_equal, kind_of, token_of, token_here, token_from};
+ghost use Rattle.lin_text.specs.Tokens.{token_length, symbol_length, begins_equal, kind_of, token_of, token_here};
+ghost use Rattle.lin_text.specs.Tokens.{token_from};
 
 use crate::run::{Run, bytes_from, is_feed, run_length};
 use lin_model::{MAX_NAME, begins_name};

@@ -3,7 +3,8 @@ ghost use Rattle.std.specs.Prelude.{◌≡◌, ◌++◌, false, length, All, IfO
 ghost use Rattle.lin_model.specs.Terms.{VarFits, TermFits, ExprFits};
 ghost use Rattle.lin_model.specs.Conditions.{IsCondition, AtomFits};
 ghost use Rattle.lin_text.specs.Queries.{Spells};
-ghost use Rattle.lin_text.specs.Spelling.{condition_text, line, var_text, atom_text, side_text, first_term, later_term, joint_of, size_text, factor_text, name_of, cmp_text, bounds_text};
+ghost use Rattle.lin_text.specs.Spelling.{condition_text, line, var_text, atom_text, side_text, first_term, later_term};
+ghost use Rattle.lin_text.specs.Spelling.{joint_of, size_text, factor_text, name_of, cmp_text, bounds_text};
 
 use crate::laws::written_is_spelled;
 use crate::push::{minus, push_integer, push_number, push_str};
@@ -27,7 +28,7 @@ pub fn write_query(alloc: Global, c: &Condition) -> Result<Vec<u8>, NoMemory>
     Ok(out)
 }
 
-/// Adds the plain spelling of a condition at the end, and tells that the condition keeps its limits. Where
+/// Adds the plain spelling of a condition at the end, and says that the condition keeps its limits. Where
 /// memory runs out, nothing is added.
 pub fn push_query(out: &mut Vec<u8>, c: &Condition) -> Result<(), NoMemory>
     ensures text { OnOk result (out.new.items ≡ out.old.items ++ condition_text c.now) }
@@ -71,7 +72,8 @@ fn push_bounds(out: &mut Vec<u8>, lo: i64, hi: i64) -> Result<(), NoMemory>
 }
 
 fn push_atoms(out: &mut Vec<u8>, vars: &[Var], atoms: &[Atom]) -> Result<(), NoMemory>
-    ensures text { OnOk result (out.new.items ≡ out.old.items ++ flat_map (λ atom. line (atom_text vars.now atom)) atoms.now) }
+    ensures text { OnOk result
+        (out.new.items ≡ out.old.items ++ flat_map (λ atom. line (atom_text vars.now atom)) atoms.now) }
     ensures fits { OnOk result (All AtomFits atoms.now) }
 {
     for atom in atoms {

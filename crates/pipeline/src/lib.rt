@@ -4,7 +4,6 @@
 mod answer;
 mod asking;
 mod laws;
-mod limits;
 mod model;
 mod query;
 mod slice_keys;

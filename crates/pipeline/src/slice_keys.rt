@@ -5,7 +5,6 @@ ghost use Rattle.slicer.specs.Slices.{AreSlices};
 ghost use Rattle.canoniser.specs.Answers.{Canonises};
 ghost use Rattle.pipeline.specs.Keyed.{IsKeyedQuery, HasKey, IsLeastFalse, keys_in, least_with};
 
-use crate::limits::query_has_limits;
 use canoniser::{Back, Canonical, canonise};
 use lin_model::{Condition, Key};
 use outside::NoMemory;
@@ -32,7 +31,7 @@ pub enum Keyed {
 pub fn keys_of(alloc: Global, query: &Condition) -> Result<Keyed, NoMemory>
     ensures { IfOk result (IsKeyedQuery query.now) }
 {
-    query_has_limits(query);
+    query.keeps_limits();
     slices_are_a_partition();
     let slices = slices(alloc, query)?;
     let canonicals = canonise_all(alloc, query, &slices)?;

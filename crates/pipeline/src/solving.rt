@@ -3,7 +3,6 @@ ghost use Rattle.std.specs.Prelude.{◌≡◌, ◌≤◌, IfOk, drop, length};
 ghost use Rattle.lin_model.specs.Bounded.{IsBounded};
 ghost use Rattle.pipeline.specs.Answers.{Replies, reply_to};
 
-use crate::limits::key_has_limits;
 use arrayvec::ArrayVec;
 use box_solver::{Found, TreeRegion, solve};
 use lin_model::Key;
@@ -35,7 +34,7 @@ pub fn solve_key(
     ensures reply { IfOk result (Replies budget key.now) }
     ensures region { region.new ≡ region.old }
 {
-    key_has_limits(key);
+    key.keeps_limits();
     bounded_keys_are_boxed();
     refuted_keys_have_no_point();
     let mark = region.mark();

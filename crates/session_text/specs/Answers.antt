@@ -12,12 +12,12 @@ pub record IsPlaced (bytes : List ℕ) (f : SessionFault) : Type 0 where
   pub line : f.line ≡ line_number bytes place
   pub column : f.column ≡ column bytes place
 
--- memory ran out, at no place
-pub record IsMemoryFault (f : SessionFault) : Type 0 where
+-- `NoMemory`, at no place
+pub record IsNoMemory (f : SessionFault) : Type 0 where
   pub kind : f.kind ≡ NoMemory
   pub line : f.line ≡ 0
   pub column : f.column ≡ 0
 
--- the fault that is told: want of memory, or the fault of the text
+-- what is answered: `NoMemory`, or the fault of the text
 abbrev pub IsFault : List ℕ → SessionFault → Type 0
-IsFault bytes f = IsMemoryFault f ⊎ IsPlaced bytes f
+IsFault bytes f = IsNoMemory f ⊎ IsPlaced bytes f

@@ -1,9 +1,14 @@
 -- The faults of a session's text: at which tokens each kind stands, and which fault is answered.
-use Rattle.std.specs.Prelude.{◌≡◌, ◌≢◌, ℕ, ◌+◌, ◌<◌, ◌≤◌, Bool, false, ◌⊎◌, List, [], ◌∷◌, ◌++◌, length, count_by, bytes_eq, Option, Some, None, MatchOption, if◌then◌else◌}
+use Rattle.std.specs.Prelude.{◌≡◌, ◌≢◌, ℕ, ◌+◌, ◌<◌, ◌≤◌, Bool, false, ◌⊎◌, List, [], ◌∷◌, ◌++◌, length, count_by}
+use Rattle.std.specs.Prelude.{bytes_eq, Option, Some, None, MatchOption, if◌then◌else◌}
+use Rattle.lin_model.specs.declared.session.TheConstants.{MAX_EXECUTORS, MAX_QUERIES}
 use Rattle.lin_text.specs.declared.fault.TextKind.{TextKind}
 use Rattle.lin_text.specs.declared.fault.TextKind.TheVariants as texts
 use Rattle.lin_text.specs.declared.fault.SessionKind.{SessionKind}
-use Rattle.lin_text.specs.declared.fault.SessionKind.TheVariants.{BadHeader, TooManyExecutors, TooManyQueries, NoEnd, Token, Syntax, NumberTooLarge, UnknownName, NameTwice, EmptyRange, TooManyVars, TooManyAtoms, TooManyTerms, NoMemory}
+use Rattle.lin_text.specs.declared.fault.SessionKind.TheVariants.{BadHeader, TooManyExecutors, TooManyQueries, NoEnd}
+use Rattle.lin_text.specs.declared.fault.SessionKind.TheVariants.{Token, Syntax, NumberTooLarge, UnknownName, NameTwice}
+use Rattle.lin_text.specs.declared.fault.SessionKind.TheVariants.{EmptyRange, TooManyVars, TooManyAtoms, TooManyTerms}
+use Rattle.lin_text.specs.declared.fault.SessionKind.TheVariants.{NoMemory}
 use Rattle.lin_text.specs.Lines.{line_from}
 use Rattle.lin_text.specs.Pieces.{Piece, word, bad, line_end, PlainToken, PlainLine, pieces, AreLines}
 use Rattle.lin_text.specs.Faults.{Stands}
@@ -38,7 +43,8 @@ abbrev pub first_word : List Piece → List ℕ
 first_word (word w ∷ ps) = w
 first_word _ = []
 
--- the part below a line that begins with a word; nothing may come below the end line, nor below another word, at which a fault stands
+-- the part below a line that begins with a word; nothing may come below the end line, nor below another word, at which
+-- a fault stands
 abbrev pub part_of_word : List ℕ → Part
 part_of_word w = if bytes_eq w executor_word then executor else (if bytes_eq w query_word then query [] else ended)
 
@@ -49,7 +55,8 @@ part_with part line = part
 
 -- the part below a line
 abbrev pub part_below : Part → PlainLine → Part
-part_below part line = if begins_word (pieces line.tokens) then part_of_word (first_word (pieces line.tokens)) else part_with part line
+part_below part line =
+    if begins_word (pieces line.tokens) then part_of_word (first_word (pieces line.tokens)) else part_with part line
 
 -- what was seen above the line below
 abbrev pub seen_below : Seen → PlainLine → Seen
@@ -91,11 +98,12 @@ session_kind texts.TooManyAtoms = TooManyAtoms
 session_kind texts.TooManyTerms = TooManyTerms
 session_kind texts.NoMemory = NoMemory
 
--- the token `p` is the 65th word `executor` or the 100,001st word `query`; these are the tokens before it on its line
+-- the token `p` is the 65th word `executor` or the 100,001st word `query`; `front` are the tokens before it on its line
 abbrev pub IsOneTooMany : Seen → List Piece → Piece → SessionKind → Type 0
 IsOneTooMany seen front p kind =
-    ((kind ≡ TooManyExecutors) × (p ≡ word executor_word) × (seen.executors + count_of executor_word front ≡ 64))
-    ⊎ ((kind ≡ TooManyQueries) × (p ≡ word query_word) × (seen.queries + count_of query_word front ≡ 100000))
+    ((kind ≡ TooManyExecutors) × (p ≡ word executor_word)
+    × (seen.executors + count_of executor_word front ≡ MAX_EXECUTORS))
+    ⊎ ((kind ≡ TooManyQueries) × (p ≡ word query_word) × (seen.queries + count_of query_word front ≡ MAX_QUERIES))
 
 -- the token is none, or can't come next in a line of the session's own
 abbrev pub CantCome : Part → List Piece → Piece → SessionKind → Type 0
@@ -112,18 +120,23 @@ pub record StandsInLine (seen : Seen) (line : PlainLine) (kind : SessionKind) (a
   pub after : List PlainToken
   pub in_line : line.tokens ≡ front ++ token ∷ after
   pub place : at ≡ token.from
-  pub stands : IsOneTooMany seen (pieces front) token.piece kind ⊎ MatchOption (query_above seen.part (pieces line.tokens)) (CantCome seen.part (pieces front) token.piece kind) (λ above. IsOfQuery above (pieces front) token.piece (pieces after) kind)
+  pub stands : IsOneTooMany seen (pieces front) token.piece kind
+      ⊎ MatchOption (query_above seen.part (pieces line.tokens)) (CantCome seen.part (pieces front) token.piece kind)
+      (λ above. IsOfQuery above (pieces front) token.piece (pieces after) kind)
 
--- a fault of the kind stands at this place in the lines; where these are over and none of them was the end line, at the end of the bytes
+-- a fault of the kind stands at this place in the lines; where these are over and none of them was the end line, at the
+-- end of the bytes
 abbrev pub StandsIn : List ℕ → Seen → List PlainLine → SessionKind → ℕ → Type 0
 StandsIn bytes seen [] kind at = (kind ≡ NoEnd) × (at ≡ length bytes) × (seen.part ≢ ended)
-StandsIn bytes seen (line ∷ lines) kind at = StandsInLine seen line kind at ⊎ StandsIn bytes (seen_below seen line) lines kind at
+StandsIn bytes seen (line ∷ lines) kind at =
+    StandsInLine seen line kind at ⊎ StandsIn bytes (seen_below seen line) lines kind at
 
 -- below the header nothing was seen
 abbrev pub nothing_seen : Seen
 nothing_seen = record { part = header; executors = 0; queries = 0 }
 
--- The first line isn't the header: the fault stands at its first byte that isn't blank, or at the input's end where there is no line. Whatever else may be wrong with that line stands there or behind.
+-- The first line isn't the header: the fault stands at its first byte that isn't blank, or at the input's end where
+-- there is no line. Whatever else may be wrong with that line stands there or behind.
 pub record IsBadHeader (bytes : List ℕ) (kind : SessionKind) (at : ℕ) : Type 0 where
   pub other : ¬ IsHeader bytes (line_from bytes 0)
   pub is : kind ≡ BadHeader
@@ -150,7 +163,8 @@ rank EmptyRange = 11
 rank NoMemory = 12
 rank NoEnd = 13
 
--- of these faults it is the one that is answered: none stands at a place before it, and none that goes before it at its place
+-- of these faults it is the one that is answered: none stands at a place before it, and none that goes before it at its
+-- place
 pub record IsFirst (Fault : SessionKind → ℕ → Type 0) (kind : SessionKind) (at : ℕ) : Type 0 where
   pub stands : Fault kind at
   pub least : (k : SessionKind) (p : ℕ) → Fault k p → (at < p) ⊎ ((at ≡ p) × (rank kind ≤ rank k))

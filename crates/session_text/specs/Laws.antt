@@ -8,21 +8,25 @@ use Rattle.session_text.specs.Faults.{HasFault}
 
 -- the plain spelling of a session is spelled as that session
 abbrev pub WrittenIsSpelled : Type 0
-WrittenIsSpelled = (s : List (List PlainCondition)) → IsSession s → All (All IsCondition) s → SpellsSession (session_text s) s
+WrittenIsSpelled =
+    (s : List (List PlainCondition)) → IsSession s → All (All IsCondition) s → SpellsSession (session_text s) s
 
 -- a text spells one session at most
 abbrev pub SpelledOnce : Type 0
-SpelledOnce = (bytes : List ℕ) (s r : List (List PlainCondition)) → SpellsSession bytes s → SpellsSession bytes r → s ≡ r
+SpelledOnce =
+    (bytes : List ℕ) (s r : List (List PlainCondition)) → SpellsSession bytes s → SpellsSession bytes r → s ≡ r
 
 -- a text that spells a session has no fault
 abbrev pub SpelledHasNoFault : Type 0
 SpelledHasNoFault =
-    (bytes : List ℕ) (s : List (List PlainCondition)) → SpellsSession bytes s → (kind : SessionKind) (place : ℕ) → HasFault bytes kind place → ⊥
+    (bytes : List ℕ) (s : List (List PlainCondition)) → SpellsSession bytes s → (kind : SessionKind) (place : ℕ)
+    → HasFault bytes kind place → ⊥
 
 -- a text spells a session or has a first fault
 abbrev pub SpelledOrFaulty : Type 0
 SpelledOrFaulty =
-    (bytes : List ℕ) → ((s : List (List PlainCondition)) × SpellsSession bytes s) ⊎ ((kind : SessionKind) × (place : ℕ) × HasFault bytes kind place)
+    (bytes : List ℕ) → ((s : List (List PlainCondition)) × SpellsSession bytes s)
+    ⊎ ((kind : SessionKind) × (place : ℕ) × HasFault bytes kind place)
 
 -- a text has at most one first fault, at one place
 abbrev pub OneFirstFault : Type 0

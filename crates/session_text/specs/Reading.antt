@@ -18,9 +18,9 @@ pub record HasFaultFrom (seen : Seen) (bytes : List ℕ) (at : ℕ) (kind : Sess
 abbrev pub IsFaultFrom : Seen → List ℕ → ℕ → Fault → Type 0
 IsFaultFrom seen bytes at f = HasFaultFrom seen bytes at f.kind f.at
 
--- memory ran out, or it is that fault
+-- `NoMemory`, or it is that fault
 abbrev pub IsReadError : Seen → List ℕ → ℕ → ReadError → Type 0
-IsReadError seen bytes at errors.Memory = Unit {0}
+IsReadError seen bytes at errors.NoMemory = Unit {0}
 IsReadError seen bytes at (errors.Fault f) = IsFaultFrom seen bytes at f
 
 -- what was seen, by what came last and how often the words came
@@ -35,7 +35,7 @@ part_after executors = if executors == 0 then header else executor
 abbrev pub seen_between : Counts → Seen
 seen_between counts = seen_with (part_after counts.executors) counts
 
--- memory ran out, or it is the fault of the whole text
+-- `NoMemory`, or it is the fault of the whole text
 abbrev pub IsSessionError : List ℕ → ReadError → Type 0
-IsSessionError bytes errors.Memory = Unit {0}
+IsSessionError bytes errors.NoMemory = Unit {0}
 IsSessionError bytes (errors.Fault f) = HasFault bytes f.kind f.at

@@ -25,7 +25,8 @@ pub record IsExecutor (bytes : List ℕ) (at : ℕ) (queries : List PlainConditi
 -- these executors, one behind the other
 abbrev pub AreExecutors : List ℕ → ℕ → List (List PlainCondition) → ℕ → Type 0
 AreExecutors bytes at [] stop = stop ≡ at
-AreExecutors bytes at (queries ∷ executors) stop = (next : ℕ) × IsExecutor bytes at queries next × AreExecutors bytes next executors stop
+AreExecutors bytes at (queries ∷ executors) stop =
+    (next : ℕ) × IsExecutor bytes at queries next × AreExecutors bytes next executors stop
 
 -- the end line, and then skipped lines alone, up to the end of the input
 pub record IsEnd (bytes : List ℕ) (at : ℕ) : Type 0 where

@@ -1,5 +1,6 @@
 //! Laws of the texts of sessions, each the contract of a function that only calls such laws, here or of a crate below.
-ghost use Rattle.session_text.specs.Laws.{OneFirstFault, SpelledHasNoFault, SpelledOnce, SpelledOrFaulty, WrittenIsSpelled};
+ghost use Rattle.session_text.specs.Laws.{OneFirstFault, SpelledHasNoFault, SpelledOnce, SpelledOrFaulty};
+ghost use Rattle.session_text.specs.Laws.{WrittenIsSpelled};
 ghost use Rattle.session_text.specs.Lawful.{TextsAreLawful};
 
 /// What is written for a session is spelled as that session.

@@ -44,7 +44,8 @@ pub fn below_word(bytes: &[u8], line: Line, counts: Counts) -> Result<usize, Fau
     ensures next { IfOk result (λ below. below ≡ line_below bytes.now line.start) }
     ensures starts { IfOk result (StartsLine bytes.now) }
     ensures goes_on { IfErr result (λ f. (second_at bytes.now line.start).piece ≢ line_end) }
-    ensures kind { IfErr result (λ f. f.kind ≡ refusal_kind (class_of (second_at bytes.now line.start).piece) counts.executors counts.queries) }
+    ensures kind { IfErr result (λ f. f.kind
+        ≡ refusal_kind (class_of (second_at bytes.now line.start).piece) counts.executors counts.queries) }
     ensures place { IfErr result (λ f. f.at ≡ (second_at bytes.now line.start).from) }
 {
     let second = next_lexeme(bytes, line.first.to);

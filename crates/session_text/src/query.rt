@@ -20,7 +20,8 @@ use std::alloc::Global;
 /// that comes once too often; the words came so often before the query's lines.
 fn query_fault(bytes: &[u8], fault: lin_text::Fault, counts: Counts) -> Fault
     requires { fault.at ≤ length bytes.now }
-    ensures kind { result.kind ≡ query_refusal fault.kind (class_of (token_at bytes.now fault.at).piece) counts.executors counts.queries }
+    ensures kind { result.kind
+        ≡ query_refusal fault.kind (class_of (token_at bytes.now fault.at).piece) counts.executors counts.queries }
     ensures place { (token_at bytes.now fault.at).from ≡ fault.at → result.at ≡ fault.at }
 {
     match fault.kind {
@@ -29,7 +30,7 @@ fn query_fault(bytes: &[u8], fault: lin_text::Fault, counts: Counts) -> Fault
     }
 }
 
-/// Reads the lines of a query from `at` on, and tells a fault as one of the session's.
+/// Reads the lines of a query from `at` on, and names a fault as one of the session's.
 fn read_body(
     alloc: Global,
     bytes: &[u8],
@@ -45,7 +46,7 @@ fn read_body(
     words_stand_in_no_line();
     match read_lines(alloc, bytes, false, at) {
         Ok(read) => Ok(read),
-        Err(lin_text::ReadError::Memory) => Err(ReadError::Memory),
+        Err(lin_text::ReadError::NoMemory) => Err(ReadError::NoMemory),
         Err(lin_text::ReadError::Fault(fault)) => {
             Err(ReadError::Fault(query_fault(bytes, fault, counts)))
         }
@@ -62,9 +63,9 @@ fn read_query(
 ) -> Result<(Condition, usize), ReadError>
     requires starts { StartsLine bytes.now at }
     requires begins { BeginsWith query_word bytes.now at }
-    requires counts { counts.queries ≤ 100000 }
+    requires counts { counts.queries ≤ MAX_QUERIES }
     ensures read { IfOk result (λ r. IsQuery bytes.now at r.0 r.1) }
-    ensures few { IfOk result (λ r. counts.queries ≢ 100000) }
+    ensures few { IfOk result (λ r. counts.queries ≢ MAX_QUERIES) }
     ensures starts { IfOk result (λ r. StartsLine bytes.now r.1) }
     ensures fault { IfErr result (IsReadError (seen_with executor counts) bytes.now at) }
 {
@@ -95,9 +96,9 @@ pub fn read_script(
     counts: Counts,
 ) -> Result<(Script, usize), ReadError>
     requires starts { StartsLine bytes.now start }
-    requires few { counts.queries ≤ 100000 }
+    requires few { counts.queries ≤ MAX_QUERIES }
     ensures read { IfOk result (λ r. AreQueries bytes.now start r.0 r.1) }
-    ensures few { IfOk result (λ r. counts.queries + length r.0 ≤ 100000) }
+    ensures few { IfOk result (λ r. counts.queries + length r.0 ≤ MAX_QUERIES) }
     ensures starts { IfOk result (λ r. StartsLine bytes.now r.1) }
     ensures ends { IfOk result (λ r. ¬ BeginsWith query_word bytes.now r.1) }
     ensures fault { IfErr result (IsReadError (seen_with executor counts) bytes.now start) }

@@ -1,4 +1,4 @@
-//! How the reader refuses: the kind of the fault and its place among the bytes, or want of memory.
+//! How the reader refuses: the kind of the fault and its place among the bytes, or `NoMemory`.
 ghost use Rattle.std.specs.Prelude.{◌≡◌, ◌+◌, ◌<◌, ◌^◌};
 ghost use Rattle.session_text.specs.Faults.{session_kind};
 ghost use Rattle.session_text.specs.Classes.{refusal_kind};
@@ -19,29 +19,29 @@ pub struct Fault {
 /// Why a part wasn't read.
 #[derive(Clone, Copy, Debug)]
 pub enum ReadError {
-    /// Want of memory.
-    Memory,
+    /// Memory ran out.
+    NoMemory,
     /// The first fault of the text.
     Fault(Fault),
 }
 
 impl From<AllocError> for ReadError {
-    ghost use Rattle.session_text.specs.declared.refusal.ReadError.TheVariants.{Memory};
+    ghost use Rattle.session_text.specs.declared.refusal.ReadError.TheVariants as errors;
 
-    ghost from_gives = { λ _ e. e ≡ Memory };
+    ghost from_gives = { λ _ e. e ≡ errors.NoMemory };
 
     fn from(_error: AllocError) -> ReadError {
-        ReadError::Memory
+        ReadError::NoMemory
     }
 }
 
 impl<T: Drop> From<AllocFailed<T>> for ReadError {
-    ghost use Rattle.session_text.specs.declared.refusal.ReadError.TheVariants.{Memory};
+    ghost use Rattle.session_text.specs.declared.refusal.ReadError.TheVariants as errors;
 
-    ghost from_gives = { λ _ e. e ≡ Memory };
+    ghost from_gives = { λ _ e. e ≡ errors.NoMemory };
 
     fn from(_error: AllocFailed<T>) -> ReadError {
-        ReadError::Memory
+        ReadError::NoMemory
     }
 }
 

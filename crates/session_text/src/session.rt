@@ -13,7 +13,7 @@ use crate::laws::texts_are_lawful;
 use crate::line::{below_word, is_header, line_at};
 use crate::query::{begins_with, read_script};
 use crate::refusal::{Counts, Fault, ReadError, fault_at, refusal};
-use lin_model::{MAX_EXECUTORS, Script, Session};
+use lin_model::{MAX_EXECUTORS, MAX_QUERIES, Script, Session};
 use lin_text::{
     SessionFault, SessionKind, column, line_below, line_number, lines_are_in_order, next_line,
 };
@@ -29,11 +29,11 @@ fn read_executor(
 ) -> Result<(Script, usize), ReadError>
     requires starts { StartsLine bytes.now at }
     requires begins { BeginsWith executor_word bytes.now at }
-    requires executors { counts.executors ≤ 64 }
-    requires queries { counts.queries ≤ 100000 }
+    requires executors { counts.executors ≤ MAX_EXECUTORS }
+    requires queries { counts.queries ≤ MAX_QUERIES }
     ensures read { IfOk result (λ r. IsExecutor bytes.now at r.0 r.1) }
-    ensures few_executors { IfOk result (λ r. counts.executors ≢ 64) }
-    ensures few_queries { IfOk result (λ r. counts.queries + length r.0 ≤ 100000) }
+    ensures few_executors { IfOk result (λ r. counts.executors ≢ MAX_EXECUTORS) }
+    ensures few_queries { IfOk result (λ r. counts.queries + length r.0 ≤ MAX_QUERIES) }
     ensures starts { IfOk result (λ r. StartsLine bytes.now r.1) }
     ensures ends { IfOk result (λ r. ¬ BeginsWith query_word bytes.now r.1) }
     ensures fault { IfErr result (IsReadError (seen_between counts) bytes.now at) }
@@ -134,7 +134,7 @@ fn read_rest(bytes: &[u8], at: usize, counts: Counts) -> Result<(), Fault>
     }
 }
 
-/// Reads a whole session, and tells a fault by its place among the bytes.
+/// Reads a whole session, and names a fault by its place among the bytes.
 fn read_whole(alloc: Global, bytes: &[u8]) -> Result<Session, ReadError>
     ensures read { IfOk result (SpellsSession bytes.now) }
     ensures fault { IfErr result (IsSessionError bytes.now) }
@@ -161,16 +161,16 @@ fn read_whole(alloc: Global, bytes: &[u8]) -> Result<Session, ReadError>
 /// with blanks alone and lines that begin with `#` are skipped. A session is answered only where nothing
 /// of the input is left.
 ///
-/// The fault at the least place is answered, with its line and its column from the input's start; at one
-/// place the one that goes first: `BadHeader`, `TooManyExecutors`, `TooManyQueries`, the kinds of
-/// `TextKind` as `read_query` orders them, `NoEnd`. Want of memory is `NoMemory`, with line and column 0.
+/// The fault at the least place is answered, with its line and its column from the input's start; at one place the one
+/// that goes first: `BadHeader`, `TooManyExecutors`, `TooManyQueries`, the kinds of `TextKind` as `read_query` orders
+/// them, `NoEnd`. Where memory runs out, `NoMemory` is answered, with line and column 0.
 pub fn read_session(alloc: Global, bytes: &[u8]) -> Result<Session, SessionFault>
     ensures read { IfOk result (SpellsSession bytes.now) }
     ensures fault { IfErr result (IsFault bytes.now) }
 {
     match read_whole(alloc, bytes) {
         Ok(session) => Ok(session),
-        Err(ReadError::Memory) => Err(SessionFault {
+        Err(ReadError::NoMemory) => Err(SessionFault {
             line: 0,
             column: 0,
             kind: SessionKind::NoMemory,

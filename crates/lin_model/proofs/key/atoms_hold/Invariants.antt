@@ -4,4 +4,4 @@ use Rattle.lin_model.proofs.key.atoms_hold.Given as goal
 
 -- the atoms so far hold
 abbrev pub invariant-loop-atom : goal.invariant-loop-atom
-invariant-loop-atom l = (k : ℕ) (d : PlainKeyAtom) → k < l.atom-index → KeyAtomHolds (get_or l.atoms k d) l.point
+invariant-loop-atom l = (k : ℕ) (d : PlainKeyAtom) → k < l.atom-index → KeyAtomHolds (get_or l.atoms k d) l.values

@@ -11,5 +11,7 @@ loop-atom-preserved c = record {
       let same = ap (λ (a : PlainKeyAtom). form_width a.form) c.atom-item.is in
       omega (arith, rest, same);
   within = omega arith;
-  canonical = AllWithin-more IsCanonical c.args.atoms.now 0 c.loop-atom.atom-index c.loop-atom.invariant.canonical (at_read c.args.atoms.now IsCanonical c.loop-atom.atom-index c.atom-item.result c.loop-atom-test.true c.atom-item.is c.width.ensures.canonical);
+  canonical = AllWithin-more IsCanonical c.args.atoms.now 0 c.loop-atom.atom-index c.loop-atom.invariant.canonical
+      (at_read c.args.atoms.now IsCanonical c.loop-atom.atom-index c.atom-item.result c.loop-atom-test.true
+      c.atom-item.is c.width.ensures.canonical);
 }

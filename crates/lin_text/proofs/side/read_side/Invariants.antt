@@ -8,7 +8,8 @@ abbrev pub invariant-loop-terms : goal.invariant-loop-terms
 invariant-loop-terms l = record {
   within : l.at ≤ length l.bytes;
   few : vec_len l.terms ≤ 64;
-  same : behind l.terms.items (items_at (64 - vec_len l.terms) l.in_proof l.bytes l.names l.subtracted l.at) ≡ items_at 64 l.in_proof l.bytes l.names false l.start;
+  same : behind l.terms.items (items_at (64 - vec_len l.terms) l.in_proof l.bytes l.names l.subtracted l.at)
+      ≡ items_at 64 l.in_proof l.bytes l.names false l.start;
 }
 
 abbrev pub decreases-loop-terms : goal.decreases-loop-terms

@@ -12,11 +12,11 @@ returns-in-Some c =
     let cs = c.in_ok-canonicals.canonicals.items in
     let zip : AllZip (Canonises c.args.query.now) c.in_ok-slices.slices.items cs = subst (λ (ss : List PlainSlice). AllZip (Canonises c.args.query.now) ss cs) c.deref.ensures.value (c.in_ok-canonicals.ensures {u = tt}) in
     let least : IsLeastFalse cs c.in-Some.j = subst (λ (xs : List Canonical). IsLeastFalse xs c.in-Some.j) c.deref-2.ensures.value (c.in-Some.ensures {u = tt}) in
-    record { slices = c.in_ok-slices.slices.items; are = c.in_ok-slices.ensures {u = tt}; least = least_is_never c.args.query.now c.in_ok-slices.slices.items cs c.in-Some.j c.slices_are_a_partition.ensures c.query_has_limits.ensures (c.in_ok-slices.ensures {u = tt}) zip least }
+    record { slices = c.in_ok-slices.slices.items; are = c.in_ok-slices.ensures {u = tt}; least = least_is_never c.args.query.now c.in_ok-slices.slices.items cs c.in-Some.j c.slices_are_a_partition.ensures c.keeps_limits.ensures.fits (c.in_ok-slices.ensures {u = tt}) zip least }
 
 pub returns : goal.returns
 returns c =
     let cs = c.in_ok-canonicals.canonicals.items in
     let zip : AllZip (Canonises c.args.query.now) c.in_ok-slices.slices.items cs = subst (λ (ss : List PlainSlice). AllZip (Canonises c.args.query.now) ss cs) c.deref.ensures.value (c.in_ok-canonicals.ensures {u = tt}) in
     let keys : All HasKey cs = subst (λ (xs : List Canonical). All HasKey xs) c.deref-2.ensures.value (c.in_default.ensures {u = tt}) in
-    subst (AreKeyed c.args.query.now) (sym (c.in_ok-with_variables.ensures {u = tt})) (keys_are_keyed c.args.query.now c.in_ok-slices.slices.items cs c.slices_are_a_partition.ensures c.query_has_limits.ensures (c.in_ok-slices.ensures {u = tt}) zip keys)
+    subst (AreKeyed c.args.query.now) (sym (c.in_ok-with_variables.ensures {u = tt})) (keys_are_keyed c.args.query.now c.in_ok-slices.slices.items cs c.slices_are_a_partition.ensures c.keeps_limits.ensures.fits (c.in_ok-slices.ensures {u = tt}) zip keys)

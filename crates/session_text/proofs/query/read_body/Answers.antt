@@ -12,15 +12,21 @@ use Rattle.session_text.proofs.query.read_body.Goals as goal
 pub query_fault-requires : goal.query_fault-requires
 query_fault-requires c =
     let f = c.in-Err-Fault.fault in
-    let h = subst (λ (x : ReadError). IsReadError false c.args.bytes.now c.args.at x) c.in-Err-Fault.field-0-is (c.in-Err-Fault.ensures {u = tt}).fault in
-    fault-within c.lines_are_in_order.ensures c.words_stand_in_no_line.ensures c.args.bytes.now c.args.at f.kind f.at h c.args.counts.executors c.args.counts.queries
+    let h = subst (λ (x : ReadError). IsReadError false c.args.bytes.now c.args.at x) c.in-Err-Fault.field-0-is
+    (c.in-Err-Fault.ensures {u = tt}).fault in
+    fault-within c.lines_are_in_order.ensures c.words_stand_in_no_line.ensures c.args.bytes.now c.args.at f.kind f.at h
+    c.args.counts.executors c.args.counts.queries
 
 pub returns-in-Err-Fault-clause-fault : goal.returns-in-Err-Fault-clause-fault
 returns-in-Err-Fault-clause-fault c =
     let f = c.in-Err-Fault.fault in
     let bytes = c.args.bytes.now in
-    let h = subst (λ (x : ReadError). IsReadError false bytes c.args.at x) c.in-Err-Fault.field-0-is (c.in-Err-Fault.ensures {u = tt}).fault in
-    fault_is c.query_fault.result bytes (seen_with (query []) c.args.counts) c.args.at (query_refusal f.kind (class_of (token_at bytes f.at).piece) c.args.counts.executors c.args.counts.queries) f.at
+    let h = subst (λ (x : ReadError). IsReadError false bytes c.args.at x) c.in-Err-Fault.field-0-is
+    (c.in-Err-Fault.ensures {u = tt}).fault in
+    fault_is c.query_fault.result bytes (seen_with (query []) c.args.counts) c.args.at
+    (query_refusal f.kind (class_of (token_at bytes f.at).piece) c.args.counts.executors c.args.counts.queries) f.at
     c.query_fault.ensures.kind
-    (c.query_fault.ensures.place (fault-from c.lines_are_in_order.ensures c.words_stand_in_no_line.ensures bytes c.args.at f.kind f.at h c.args.counts.executors c.args.counts.queries))
-    (query_fault c.lines_are_in_order.ensures c.words_stand_in_no_line.ensures bytes c.args.at f.kind f.at h c.args.counts.executors c.args.counts.queries)
+    (c.query_fault.ensures.place (fault-from c.lines_are_in_order.ensures c.words_stand_in_no_line.ensures bytes
+    c.args.at f.kind f.at h c.args.counts.executors c.args.counts.queries))
+    (query_fault c.lines_are_in_order.ensures c.words_stand_in_no_line.ensures bytes c.args.at f.kind f.at h
+    c.args.counts.executors c.args.counts.queries)

@@ -16,4 +16,5 @@ returns-else-line-bytes-clause-fault c =
     fault_is c.refusal.result bytes (seen_with ended c.args.counts) c.args.at _ _
     (c.refusal.ensures.kind ∙ ap (λ (k : Class). refusal_kind k c.args.counts.executors c.args.counts.queries) l.class)
     (c.refusal.ensures.place ∙ l.from)
-    (first_refused c.lines_are_in_order.ensures bytes (seen_with ended c.args.counts) c.args.at (λ ps. refl) lt (λ x. x.may))
+    (first_refused c.lines_are_in_order.ensures bytes (seen_with ended c.args.counts) c.args.at (λ ps. refl) lt
+    (λ x. x.may))

@@ -8,5 +8,6 @@ new-requires c = record {
   few_vars = c.self.invariant.few_vars;
   few_atoms = c.self.invariant.few_atoms;
   distinct = subst (λ (q : PlainCondition). AllPairs Differ q.vars) (sym c.self.view_is) c.requires.distinct;
-  in_range = subst (λ (q : PlainCondition). All (AtomNamesBelow (length q.vars)) q.atoms) (sym c.self.view_is) c.requires.in_range;
+  in_range = subst (λ (q : PlainCondition). All (AtomNamesBelow (length q.vars)) q.atoms)
+      (sym c.self.view_is) c.requires.in_range;
 }
