@@ -1,11 +1,9 @@
 -- The bounds of variables as canonical atoms.
-use Rattle.std.proofs.Common.{◌≡◌, ◌≢◌, ◌↔◌, ◌⊎◌, ℕ, ◌+◌, ◌^◌, ◌<◌, ◌≤◌, ℤ, pos, List, [], ◌∷◌, ◌++◌, Option, Some, sym, subst, inl, inr, arith, lit<}
+use Rattle.std.proofs.Common.{◌≡◌, ◌≢◌, ◌↔◌, ◌⊎◌, ℕ, ◌+◌, ◌^◌, ◌<◌, ◌≤◌, ℤ, pos, List, [], ◌∷◌, ◌++◌, Option, Some, refl, sym, subst, inl, inr, arith, lit<}
 use Rattle.std.specs.Prelude.{unsigned_abs, slice_index}
 use Rattle.std.specs.List.{All, Contains, slice_get}
 use Rattle.std.specs.Option.{IsSomeAnd}
-use Rattle.std.specs.Int.{◌∣◌}
 use Rattle.std.proofs.lemmas.Int.{ints}
-use Rattle.std.proofs.lemmas.Nat.Gcd.{dvd_refl}
 use Rattle.std.proofs.lemmas.Bool.Decides.{eqb_tells}
 use Rattle.std.proofs.lemmas.List.Elements.{All-nil, All-cons, Contains-append_left, Contains-push, Contains-push_cases}
 use borrow.Author.Count.{below_more}
@@ -13,7 +11,7 @@ use Rattle.lin_model.specs.declared.form.FormTerm.{FormTerm}
 use Rattle.lin_model.specs.declared.op.Op.{Op}
 use Rattle.lin_model.specs.Terms.{PlainVar, VarFits}
 use Rattle.lin_model.specs.Conditions.{PlainCondition}
-use Rattle.lin_model.specs.Form.{IsGcdOf}
+use Rattle.lin_model.specs.Form.{gcd_within, gcd, divisor}
 use Rattle.lin_model.specs.KeyAtom.{PlainKeyAtom, IsCanonical, IsCanonicalForm}
 use Rattle.lin_model.specs.Bounded.{variable}
 use Rattle.canoniser.specs.Keys.{upper_atom, lower_atom, BoundsAt}
@@ -22,12 +20,10 @@ use Rattle.canoniser.specs.Keys.{upper_atom, lower_atom, BoundsAt}
 all_one : (P : FormTerm → Type 0) (v : ℕ) → P (record { var = v; coef = pos 1 }) → All P (variable v)
 all_one P v here = All-cons P (record { var = v; coef = pos 1 }) [] here (All-nil P)
 
--- no number above 1 divides the coefficient 1
-IsGcdOf-variable : (v : ℕ) → IsGcdOf (variable v) 1
-IsGcdOf-variable v = record {
-  divides = all_one (λ t. 1 ∣ unsigned_abs t.coef) v (dvd_refl 1);
-  greatest = λ d all. all 0 (record { var = v; coef = pos 1 }) (omega arith);
-}
+-- 1 is the divisor of the coefficient 1
+divisor-variable : (v : ℕ) → divisor (variable v) ≡ 1
+unfolding divisor gcd gcd_within
+divisor-variable v = refl
 
 IsCanonicalForm-variable : (v : ℕ) → v < 64 → IsCanonicalForm (variable v)
 IsCanonicalForm-variable v below = record {
@@ -36,7 +32,7 @@ IsCanonicalForm-variable v below = record {
   variables = record { ascend = λ k d lt. absurd (omega arith); in_range = all_one (λ t. t.var < 64) v below };
   coefficients = record { not_zero = all_one (λ t. t.coef ≢ pos 0) v (λ e. absurd (cc)); small = all_one (λ t. unsigned_abs t.coef < 2 ^ 40) v (lit< tt) };
   begins_positive = λ d lt. omega (arith, ints);
-  gcd_is_one = IsGcdOf-variable v;
+  gcd_is_one = divisor-variable v;
 }
 
 pub IsCanonical-variable : (v : ℕ) (op : Op) (constant : ℤ) → v < 64 → unsigned_abs constant ≤ 2 ^ 31 → IsCanonical (record { form = variable v; op = op; constant = constant })

@@ -15,6 +15,7 @@ use Rattle.lin_model.specs.declared.atom.Cmp.{Cmp}
 use Rattle.lin_model.specs.declared.atom.Cmp.TheVariants.{Le, Lt, Ge, Gt, Eq, Ne}
 use Rattle.lin_model.specs.declared.op.Op.{Op}
 use Rattle.lin_model.specs.Conditions.{AtomFits}
+use Rattle.lin_model.specs.Facts.{divisor_from_IsGcdOf}
 use Rattle.lin_model.specs.Form.{IsGcdOf, DividesAll}
 use Rattle.lin_model.specs.KeyAtom.{PlainKeyAtom, BeginsPositive, HasSmallCoefficients, IsCanonicalForm}
 use Rattle.lin_model.specs.Quotients.{floor_div}
@@ -266,5 +267,5 @@ IsCanonicalForm-divided a g some oriented gcd h =
         small = All-map (λ t. unsigned_abs t.coef < 2 ^ 40) (part g) a.form (λ k d lt. omega (arith, quotient-small (get_or a.form k d).coef g h (gcd.divides k d lt), gathered.coefficients.small k d lt));
       };
       begins_positive = λ d lt. subst (λ t. pos 0 <ℤ t.coef) (sym (get_or-map (part g) a.form 0 d d some)) (quotient-positive (get_or a.form 0 d).coef g h (gcd.divides 0 d some) (oriented.begins_positive d some));
-      gcd_is_one = divided-primitive g a.form h gcd;
+      gcd_is_one = sym (divisor_from_IsGcdOf (divided g a.form) 1 (divided-primitive g a.form h gcd));
     }

@@ -1,4 +1,4 @@
--- What an atom comes to holds where the atom holds.
+-- The canonical form of an atom holds where the atom holds.
 use Rattle.std.proofs.Common.{◌≡◌, ◌≢◌, ℕ, ◌<◌, ◌*◌, ◌%◌, ◌↔◌, Bool, true, false, List, [], ◌∷◌, map, ℤ, pos, ◌+ℤ◌, ◌-ℤ◌, ◌*ℤ◌, neg_ℤ, ◌≤ℤ◌, ◌<ℤ◌, refl, arith, eqb-true, eq-eqb, ap, sym, subst, ◌∙◌}
 use Rattle.std.specs.Prelude.{IsTrue, Contains, AllPairs, int_le, not, unsigned_abs, if◌then◌else◌}
 use Rattle.std.specs.Int.{◌∣◌}
@@ -10,7 +10,8 @@ use Rattle.std.proofs.lemmas.Int.{ints, by_lt_z, unsigned_abs-mul}
 use Rattle.std.proofs.lemmas.List.Elements.{All-head, All-tail}
 use Rattle.lin_model.specs.Terms.{value_at, value_of}
 use Rattle.lin_model.specs.Truth.{Compares, AtomHolds}
-use Rattle.lin_model.specs.Form.{form_value, DividesAll}
+use Rattle.lin_model.specs.Facts.{IsGcdOf-divisor}
+use Rattle.lin_model.specs.Form.{form_value, divisor, DividesAll}
 use Rattle.lin_model.specs.Test.{passes}
 use Rattle.lin_model.specs.KeyAtom.{PlainKeyAtom, KeyAtomHolds}
 use Rattle.lin_model.specs.declared.atom.Atom.{Atom}
@@ -23,8 +24,11 @@ use Rattle.lin_model.specs.Quotients.{floor_div}
 use Rattle.lin_model.specs.Integers.{distrib_left, times_assoc, scale_up}
 use Rattle.slicer.specs.Names.{Names}
 use Rattle.canoniser.specs.Gathered.{constant, op_of, loose}
-use Rattle.canoniser.specs.Forms.{Outcome, always, never, says, terms_from, gathered, oriented, turned, turned_op, begins_negative, divides, divided, reduced, IsOutcome, ComesTo}
-use Rattle.canoniser.specs.Solutions.{point_of, IsNever}
+use Rattle.canoniser.specs.declared.atom_form.AtomForm.{AtomForm}
+use Rattle.canoniser.specs.declared.atom_form.AtomForm.TheVariants.{True, False, KeyAtom}
+use Rattle.canoniser.specs.Forms.{terms_from, gathered, oriented, turned, turned_op, begins_negative, divides, divided}
+use Rattle.canoniser.specs.Forms.{reduced, primitive, canonical_form}
+use Rattle.canoniser.specs.Solutions.{point_of, IsFalse}
 use Rattle.canoniser.proofs.Arithmetic.{neg_left, floor_div-exact, floor_div-above, ceil_div-below}
 use Rattle.canoniser.proofs.LimitsLemmas.{gcd-positive, nonzero-oriented}
 use Rattle.canoniser.proofs.SideLemmas.{gathered_value}
@@ -134,14 +138,14 @@ reduced-passes-equal g c n m h d value = (
   λ e. value ∙ ap (λ (x : ℤ). pos g *ℤ x) e ∙ sym (floor_div-exact c g h d),
 )
 
--- ---- what each outcome says of an atom `form op constant`
+-- ---- what each form says of an atom `form op constant`
 
-abbrev pub Means : List FormTerm → Op → ℤ → Outcome → Type 0
-Means form op c always = (point : List ℤ) → Passes op c (form_value form point)
-Means form op c never = (point : List ℤ) → ¬ Passes op c (form_value form point)
-Means form op c (says a) = (point : List ℤ) → Passes op c (form_value form point) ↔ HoldsAt a point
+abbrev pub Means : List FormTerm → Op → ℤ → AtomForm → Type 0
+Means form op c True = (point : List ℤ) → Passes op c (form_value form point)
+Means form op c False = (point : List ℤ) → ¬ Passes op c (form_value form point)
+Means form op c (KeyAtom a) = (point : List ℤ) → Passes op c (form_value form point) ↔ HoldsAt a point
 
-alone_by : (test : Bool) (op : Op) (c : ℤ) → passes op c (pos 0) ≡ test → Means [] op c (if test then always else never)
+alone_by : (test : Bool) (op : Op) (c : ℤ) → passes op c (pos 0) ≡ test → Means [] op c (if test then True else False)
 alone_by true op c e = λ point. (passes-tells op c (pos 0)).0 e
 alone_by false op c e = λ point h. absurd (cc (e, (passes-tells op c (pos 0)).1 h))
 
@@ -153,13 +157,13 @@ not_divided g c n m h value same =
 pub divisor_from_test : (g : ℕ) (c : ℤ) → divides g c ≡ true → g ∣ unsigned_abs c
 divisor_from_test g c e = dvd_of_mod-eq-zero g (eqb-true (unsigned_abs c % g) 0 e)
 
-equal_by : (test : Bool) (g : ℕ) (form : List FormTerm) (c : ℤ) → 0 < g → DividesAll g form → divides g c ≡ test → Means form Equals c (if test then says (record { form = divided g form; op = Equals; constant = floor_div c g }) else never)
+equal_by : (test : Bool) (g : ℕ) (form : List FormTerm) (c : ℤ) → 0 < g → DividesAll g form → divides g c ≡ test → Means form Equals c (if test then KeyAtom (record { form = divided g form; op = Equals; constant = floor_div c g }) else False)
 equal_by true g form c h all e = λ point.
     reduced-passes-equal g c (form_value form point) (form_value (divided g form) point) h (divisor_from_test g c e) (divided-value g form point h all)
 equal_by false g form c h all e = λ point same.
     absurd (cc (e, not_divided g c (form_value form point) (form_value (divided g form) point) h (divided-value g form point h all) same))
 
-differ_by : (test : Bool) (g : ℕ) (form : List FormTerm) (c : ℤ) → 0 < g → DividesAll g form → divides g c ≡ test → Means form Differs c (if test then says (record { form = divided g form; op = Differs; constant = floor_div c g }) else always)
+differ_by : (test : Bool) (g : ℕ) (form : List FormTerm) (c : ℤ) → 0 < g → DividesAll g form → divides g c ≡ test → Means form Differs c (if test then KeyAtom (record { form = divided g form; op = Differs; constant = floor_div c g }) else True)
 differ_by true g form c h all e = λ point.
     let same = reduced-passes-equal g c (form_value form point) (form_value (divided g form) point) h (divisor_from_test g c e) (divided-value g form point h all) in
     (λ other e. other (same.1 e), λ other e. other (same.0 e))
@@ -178,31 +182,42 @@ reduced-means g form AtLeast c h all = λ point.
 reduced-means g form Equals c h all = equal_by (divides g c) g form c h all refl
 reduced-means g form Differs c h all = differ_by (divides g c) g form c h all refl
 
-outcome-means : (form : List FormTerm) (op : Op) (c : ℤ) (outcome : Outcome) → All (λ t. t.coef ≢ pos 0) form → IsOutcome form op c outcome → Means form op c outcome
-outcome-means [] op c outcome nonzero e =
-    subst (Means [] op c) (sym e) (alone_by (passes op c (pos 0)) op c refl)
-outcome-means (t ∷ ts) op c outcome nonzero made =
-    let positive = gcd-positive (t ∷ ts) made.divisor (omega arith) nonzero made.greatest in
-    subst (Means (t ∷ ts) op c) (sym made.quotient) (reduced-means made.divisor (t ∷ ts) op c positive made.greatest.divides)
+primitive-means : (form : List FormTerm) (op : Op) (c : ℤ) → All (λ t. t.coef ≢ pos 0) form
+    → Means form op c (primitive form op c)
+primitive-means [] op c nonzero = alone_by (passes op c (pos 0)) op c refl
+primitive-means (t ∷ ts) op c nonzero =
+    let g = divisor (t ∷ ts) in
+    let is = IsGcdOf-divisor (t ∷ ts) in
+    reduced-means g (t ∷ ts) op c (gcd-positive (t ∷ ts) g (omega arith) nonzero is) is.divides
 
--- ---- what an atom comes to
+-- ---- the canonical form
 
-pub oriented-means : (order : List ℕ) (atom : Atom) (outcome : Outcome) → ComesTo order atom outcome → Means (oriented (gathered order atom)).form (oriented (gathered order atom)).op (oriented (gathered order atom)).constant outcome
-oriented-means order atom outcome comes =
+pub canonical_form-means : (order : List ℕ) (atom : Atom) (form : AtomForm) → canonical_form order atom ≡ form
+    → Means (oriented (gathered order atom)).form (oriented (gathered order atom)).op (oriented (gathered order atom)).constant form
+unfolding canonical_form
+canonical_form-means order atom form is =
     let a = oriented (gathered order atom) in
-    outcome-means a.form a.op a.constant outcome (nonzero-oriented order atom) comes
+    subst (Means a.form a.op a.constant) is (primitive-means a.form a.op a.constant (nonzero-oriented order atom))
 
--- an atom that says the same as a canonical one
-pub says-holds : (order : List ℕ) (atom : Atom) (a : PlainKeyAtom) → AllPairs ◌≢◌ order → ((v : ℕ) → Names atom v → Contains order v) → ComesTo order atom (says a) → (values : List ℤ) → AtomHolds atom values ↔ KeyAtomHolds a (point_of order values)
-says-holds order atom a distinct named comes values =
+-- an atom whose canonical form is a canonical atom
+pub key_atom-holds : (order : List ℕ) (atom : Atom) (a : PlainKeyAtom) → AllPairs ◌≢◌ order
+    → ((v : ℕ) → Names atom v → Contains order v) → canonical_form order atom ≡ KeyAtom a
+    → (values : List ℤ) → AtomHolds atom values ↔ KeyAtomHolds a (point_of order values)
+key_atom-holds order atom a distinct named is values =
     let point = point_of order values in
     let turn = passes-tells a.op a.constant (form_value a.form point) in
-    and_then (oriented-holds order atom values distinct named) (and_then (oriented-means order atom (says a) comes point) (turn.1, turn.0))
+    and_then (oriented-holds order atom values distinct named)
+    (and_then (canonical_form-means order atom (KeyAtom a) is point) (turn.1, turn.0))
 
-pub always-holds : (order : List ℕ) (atom : Atom) → AllPairs ◌≢◌ order → ((v : ℕ) → Names atom v → Contains order v) → ComesTo order atom always → (values : List ℤ) → AtomHolds atom values
-always-holds order atom distinct named comes values =
-    (oriented-holds order atom values distinct named).1 (oriented-means order atom always comes (point_of order values))
+-- one whose canonical form is True
+pub true-holds : (order : List ℕ) (atom : Atom) → AllPairs ◌≢◌ order → ((v : ℕ) → Names atom v → Contains order v)
+    → canonical_form order atom ≡ True → (values : List ℤ) → AtomHolds atom values
+true-holds order atom distinct named is values =
+    (oriented-holds order atom values distinct named).1 (canonical_form-means order atom True is (point_of order values))
 
-pub never-is-never : (order : List ℕ) (atom : Atom) → AllPairs ◌≢◌ order → ((v : ℕ) → Names atom v → Contains order v) → ComesTo order atom never → IsNever atom
-never-is-never order atom distinct named comes values holds =
-    oriented-means order atom never comes (point_of order values) ((oriented-holds order atom values distinct named).0 holds)
+-- one whose canonical form is False
+pub false-is_false : (order : List ℕ) (atom : Atom) → AllPairs ◌≢◌ order → ((v : ℕ) → Names atom v → Contains order v)
+    → canonical_form order atom ≡ False → IsFalse atom
+false-is_false order atom distinct named is values holds =
+    let point = point_of order values in
+    canonical_form-means order atom False is point ((oriented-holds order atom values distinct named).0 holds)

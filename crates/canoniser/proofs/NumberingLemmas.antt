@@ -127,6 +127,31 @@ pub Given-filter_map : {X Y : Type 0} (h : X → Option Y) (xs : List X) (y : Y)
 Given-filter_map h [] y has = absurd (omega (arith, has.1))
 Given-filter_map h (x ∷ xs) y has = one_given h x xs y (h x) refl (Given-filter_map h xs y) has
 
+Contains-cons_option : {Y : Type 0} (o : Option Y) (ys : List Y) (y : Y) → Contains ys y → Contains (cons_option o ys) y
+Contains-cons_option None ys y has = has
+Contains-cons_option (Some z) ys y has = Contains-later z ys y has
+
+-- what an element gives is there
+pub Contains-filter_map : {X Y : Type 0} (h : X → Option Y) (xs : List X) (x : X) (y : Y) → Contains xs x
+    → h x ≡ Some y → Contains (filter_map h xs) y
+Contains-filter_map h [] x y has is = absurd (omega (arith, has.1))
+Contains-filter_map {X} {Y} h (z ∷ zs) x y has is =
+    elim (Contains-cases z zs x has) [
+      | inl same ↦
+          subst (λ (o : Option Y). Contains (cons_option o (filter_map h zs)) y) (sym (ap h same ∙ is))
+          (Contains-first y (filter_map h zs))
+      | inr later ↦ Contains-cons_option (h z) (filter_map h zs) y (Contains-filter_map h zs x y later is)
+    ]
+
+-- no more are given than there are
+pub length-filter_map : {X Y : Type 0} (h : X → Option Y) (xs : List X) → length (filter_map h xs) ≤ length xs
+length-filter_map h [] = omega arith
+length-filter_map {X} {Y} h (x ∷ xs) = by_option (h x) (length-filter_map h xs)
+  where
+    by_option : (o : Option Y) → length (filter_map h xs) ≤ length xs → length (cons_option o (filter_map h xs)) ≤ suc (length xs)
+    by_option None le = omega arith
+    by_option (Some y) le = omega arith
+
 -- the order has each variable that an atom of the slice names
 pub order_of-names : (c : PlainCondition) (s : PlainSlice) (atom : Atom) → Contains (atoms_of c s) atom → (v : ℕ) → Names atom v → Contains (order_of c s) v
 order_of-names c s atom among v names =

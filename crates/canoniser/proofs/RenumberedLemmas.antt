@@ -1,5 +1,5 @@
--- An atom whose variables are numbered otherwise comes to the same over the variables in the same order.
-use Rattle.std.proofs.Common.{◌≡◌, ℕ, suc, ◌<◌, ℤ, pos, List, [], ◌∷◌, ◌++◌, map, Option, Some, None, Bool, refl, sym, ap, ◌∙◌, subst, inl, inr}
+-- An atom whose variables are numbered otherwise has the same canonical form over the variables in the same order.
+use Rattle.std.proofs.Common.{◌≡◌, ℕ, suc, ◌<◌, ℤ, pos, List, [], ◌∷◌, ◌++◌, map, Option, Some, None, Bool, refl, sym, ap, ◌∙◌, inl, inr}
 use Rattle.std.specs.Prelude.{◌==◌, ◌+ℤ◌, ◌-ℤ◌, if◌then◌else◌, option_map, is_some}
 use Rattle.std.specs.Ordering.{int_eq}
 use Rattle.std.specs.List.{All, cons_option}
@@ -14,7 +14,7 @@ use Rattle.lin_model.specs.declared.form.FormTerm.{FormTerm}
 use Rattle.lin_model.specs.KeyAtom.{PlainKeyAtom}
 use Rattle.slicer.specs.Names.{side_vars, atom_vars}
 use Rattle.canoniser.specs.Gathered.{is_on, factor_on, constants_of, coefficient, constant, op_of, loose}
-use Rattle.canoniser.specs.Forms.{Outcome, terms_from, gathered, oriented, IsOutcome, ComesTo}
+use Rattle.canoniser.specs.Forms.{terms_from, gathered, oriented, primitive_of, canonical_form}
 use Rattle.canoniser.specs.Laws.{renumbered_term, renumbered, IsOneToOne}
 
 -- two tests for equality that say the same
@@ -72,14 +72,13 @@ gathered-renumbered n f g one order atom within below =
     let constant_same = constant-renumbered f atom in
     λ i. record { form = form i; op = op_of atom.cmp; constant = loose atom.cmp (constant_same i) }
 
--- it comes to the same
-pub ComesTo-renumbered : (n : ℕ) (f g : ℕ → ℕ) → IsOneToOne n f g → (order : List ℕ) (atom : Atom) (outcome : Outcome) → All (λ v. v < n) order → AtomNamesBelow n atom → ComesTo order atom outcome → ComesTo (map f order) (renumbered f atom) outcome
-ComesTo-renumbered n f g one order atom outcome within below comes =
-    subst (λ (a : PlainKeyAtom). IsOutcome (oriented a).form (oriented a).op (oriented a).constant outcome) (sym (gathered-renumbered n f g one order atom within below)) comes
-
-pub ComesTo-from_renumbered : (n : ℕ) (f g : ℕ → ℕ) → IsOneToOne n f g → (order : List ℕ) (atom : Atom) (outcome : Outcome) → All (λ v. v < n) order → AtomNamesBelow n atom → ComesTo (map f order) (renumbered f atom) outcome → ComesTo order atom outcome
-ComesTo-from_renumbered n f g one order atom outcome within below comes =
-    subst (λ (a : PlainKeyAtom). IsOutcome (oriented a).form (oriented a).op (oriented a).constant outcome) (gathered-renumbered n f g one order atom within below) comes
+-- it has the same canonical form
+pub canonical_form-renumbered : (n : ℕ) (f g : ℕ → ℕ) → IsOneToOne n f g → (order : List ℕ) (atom : Atom)
+    → All (λ v. v < n) order → AtomNamesBelow n atom
+    → canonical_form (map f order) (renumbered f atom) ≡ canonical_form order atom
+unfolding canonical_form
+canonical_form-renumbered n f g one order atom within below =
+    ap (λ (a : PlainKeyAtom). primitive_of (oriented a)) (gathered-renumbered n f g one order atom within below)
 
 cons_option-renumbered : (f : ℕ → ℕ) (o : Option ℕ) (xs : List ℕ) → cons_option (option_map f o) (map f xs) ≡ map f (cons_option o xs)
 cons_option-renumbered f None xs = refl

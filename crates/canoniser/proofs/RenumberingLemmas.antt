@@ -1,5 +1,5 @@
 -- A slice whose variables are numbered otherwise has the same keys.
-use Rattle.std.proofs.Common.{◌≡◌, ◌⊎◌, ℕ, ℤ, ◌<◌, List, [], ◌∷◌, ◌++◌, length, map, get_or, Bool, true, false, not, if◌then◌else◌, refl, sym, ap, ◌∙◌, subst, inl, inr, arith}
+use Rattle.std.proofs.Common.{◌≡◌, ◌≢◌, ◌⊎◌, ℕ, ℤ, ◌<◌, List, [], ◌∷◌, ◌++◌, length, map, get_or, Bool, true, false, not, if◌then◌else◌, refl, sym, ap, ◌∙◌, subst, inl, inr, arith}
 use Rattle.std.specs.Prelude.{◌==◌, slice_index}
 use Rattle.std.specs.List.{All, Contains, filter, slice_get}
 use Rattle.std.specs.Option.{IsSomeAnd}
@@ -16,7 +16,8 @@ use Rattle.lin_model.specs.Lists.{nil_from_none, Found-at, Found-from, IsSomeAnd
 use Rattle.slicer.specs.Names.{atom_vars, NamesDeclared}
 use Rattle.slicer.specs.Laws.{HasNamed, SlicesPartition}
 use Rattle.slicer.specs.Slices.{PlainSlice}
-use Rattle.canoniser.specs.Forms.{never, says, ComesTo}
+use Rattle.canoniser.specs.declared.atom_form.AtomForm.TheVariants.{False}
+use Rattle.canoniser.specs.Forms.{canonical_form}
 use Rattle.canoniser.specs.Numbering.{first_ones, atoms_of, order_of}
 use Rattle.canoniser.specs.Keys.{IsSliceIn, IsBound, IsGiven, upper_atom, lower_atom}
 use Rattle.canoniser.specs.Laws.{HaveSameBounds, IsOneToOne, IsRenumbered, RenumberingKeepsKeys, renumbered}
@@ -24,8 +25,8 @@ use Rattle.canoniser.proofs.SliceLemmas.{IsWithin-slice, HasNamed-slice}
 use Rattle.canoniser.proofs.SelectLemmas.{belongs, belongs-tells, belongs-nothing, Selects-slice, atoms_of-selected}
 use Rattle.canoniser.proofs.NumberingLemmas.{Contains-first_ones, order_of-below}
 use Rattle.canoniser.proofs.NamedLemmas.{named, AreNamed, named_or_alone, order_of-named, order_of-alone}
-use Rattle.canoniser.proofs.RenumberedLemmas.{apart, ComesTo-renumbered, ComesTo-from_renumbered, atom_vars-renumbered, renumbered-back, atoms-back, AtomNamesBelow-renumbered}
-use Rattle.canoniser.proofs.SameKeyLemmas.{IsDefined, HaveSameKeys-given}
+use Rattle.canoniser.proofs.RenumberedLemmas.{apart, canonical_form-renumbered, atom_vars-renumbered, renumbered-back, atoms-back, AtomNamesBelow-renumbered}
+use Rattle.canoniser.proofs.SameKeyLemmas.{NoFormIsFalse, HaveSameKeys-given}
 
 -- the second condition and slice are the first with their variables numbered otherwise
 pub record Renumbers (c : PlainCondition) (s : PlainSlice) (d : PlainCondition) (t : PlainSlice) (n : ℕ) (f g : ℕ → ℕ) : Type 0 where
@@ -205,6 +206,14 @@ atoms_below c s d t n f g are =
     let selected = atoms_of-selected c s (Selects-slice c s are.has_named are.slice) in
     subst (λ (atoms : List Atom). All (AtomNamesBelow n) atoms) (sym selected) (All-filter (belongs s.vars) (AtomNamesBelow n) c.atoms are.declared)
 
+-- the canonical form of an atom of the slice stays
+same_form-renumbered : (c : PlainCondition) (s : PlainSlice) (d : PlainCondition) (t : PlainSlice) (n : ℕ) (f g : ℕ → ℕ)
+    → Renumbers c s d t n f g → (x : Atom) → AtomNamesBelow n x
+    → canonical_form (order_of d t) (renumbered f x) ≡ canonical_form (order_of c s) x
+same_form-renumbered c s d t n f g are x below =
+    ap (λ (o : List ℕ). canonical_form o (renumbered f x)) (order_of-renumbered c s d t n f g are)
+    ∙ canonical_form-renumbered n f g are.one (order_of c s) x (order_within c s d t n f g are) below
+
 IsGiven-renumbered : (c : PlainCondition) (s : PlainSlice) (d : PlainCondition) (t : PlainSlice) (n : ℕ) (f g : ℕ → ℕ) → Renumbers c s d t n f g → (a : PlainKeyAtom) → IsGiven c s a → IsGiven d t a
 IsGiven-renumbered c s d t n f g are a given =
     let order = order_of-renumbered c s d t n f g are in
@@ -215,21 +224,20 @@ IsGiven-renumbered c s d t n f g are a given =
           let among : Contains (atoms_of c s) x = (any.0, any.2, any.3) in
           let there : Contains (atoms_of d t) (renumbered f x) = subst (λ (atoms : List Atom). Contains atoms (renumbered f x)) (sym (atoms_of-renumbered c s d t n f g are)) (Contains-map (renumbered f) (atoms_of c s) x among) in
           let below = All-contains (AtomNamesBelow n) (atoms_of c s) x (atoms_below c s d t n f g are) among in
-          let comes = ComesTo-renumbered n f g are.one (order_of c s) x (says a) within below any.4 in
-          inl (there.0, renumbered f x, there.1, there.2, subst (λ (o : List ℕ). ComesTo o (renumbered f x) (says a)) (sym order) comes)
+          let same = same_form-renumbered c s d t n f g are x below in
+          inl (there.0, renumbered f x, there.1, there.2, same ∙ any.4)
           )
       | inr bound ↦ inr (subst (λ (o : List ℕ). IsBound d o a) (sym order) (IsBound-renumbered c s d t n f g are (order_of c s) a within bound))
     ]
 
-IsDefined-renumbered : (c : PlainCondition) (s : PlainSlice) (d : PlainCondition) (t : PlainSlice) (n : ℕ) (f g : ℕ → ℕ) → Renumbers c s d t n f g → IsDefined c s → IsDefined d t
-IsDefined-renumbered c s d t n f g are defined =
-    let order = order_of-renumbered c s d t n f g are in
-    let within = order_within c s d t n f g are in
-    let P : Atom → Type 0 = λ y. ¬ ComesTo (order_of d t) y never in
+NoFormIsFalse-renumbered : (c : PlainCondition) (s : PlainSlice) (d : PlainCondition) (t : PlainSlice) (n : ℕ) (f g : ℕ → ℕ) → Renumbers c s d t n f g → NoFormIsFalse c s → NoFormIsFalse d t
+NoFormIsFalse-renumbered c s d t n f g are none =
+    let P : Atom → Type 0 = λ y. canonical_form (order_of d t) y ≢ False in
     subst (λ (atoms : List Atom). All P atoms) (sym (atoms_of-renumbered c s d t n f g are))
-    (All-map P (renumbered f) (atoms_of c s) (λ k e lt comes.
+    (All-map P (renumbered f) (atoms_of c s) (λ k e lt is.
     let x = get_or (atoms_of c s) k e in
-    defined k e lt (ComesTo-from_renumbered n f g are.one (order_of c s) x never within (atoms_below c s d t n f g are k e lt) (subst (λ (o : List ℕ). ComesTo o (renumbered f x) never) order comes))))
+    let same = same_form-renumbered c s d t n f g are x (atoms_below c s d t n f g are k e lt) in
+    none k e lt (sym same ∙ is)))
 
 -- what the second condition's atoms name is declared there
 NamesDeclared-renumbered : (c d : PlainCondition) (f g : ℕ → ℕ) → NamesDeclared c → IsOneToOne (length c.vars) f g → IsRenumbered f c d → NamesDeclared d
@@ -260,4 +268,4 @@ RenumberingKeepsKeys-lem parts c d s t f g fits one back is slice other_slice sa
     }
     in
     let again = Renumbers-back c s d t n f g are in
-    HaveSameKeys-given c s d t (IsDefined-renumbered c s d t n f g are) (IsDefined-renumbered d t c s n g f again) (IsGiven-renumbered c s d t n f g are) (IsGiven-renumbered d t c s n g f again)
+    HaveSameKeys-given c s d t (NoFormIsFalse-renumbered c s d t n f g are) (NoFormIsFalse-renumbered d t c s n g f again) (IsGiven-renumbered c s d t n f g are) (IsGiven-renumbered d t c s n g f again)

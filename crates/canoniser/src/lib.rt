@@ -1,6 +1,7 @@
 //! From a slice of a condition to its canonical key, and back.
 #![tactic(auto)]
 
+mod atom_form;
 mod back;
 mod bounds;
 mod canonical;
@@ -9,9 +10,8 @@ mod keys;
 mod laws;
 mod linear;
 mod numbering;
-mod outcome;
-mod said;
 mod side;
+mod slice_forms;
 mod strongest;
 
 pub use back::Back;

@@ -1,4 +1,4 @@
--- An atom with both sides times a positive number comes to the same.
+-- An atom with both sides times a positive number has the same canonical form.
 use Rattle.std.proofs.Common.{◌≡◌, ◌≢◌, ℕ, suc, ◌*◌, ◌/◌, ◌%◌, zero, ◌<◌, ◌≤◌, ◌↔◌, Bool, true, List, [], ◌∷◌, get_or, map, ℤ, pos, ◌*ℤ◌, ◌≤ℤ◌, unsigned_abs, refl, arith, eq-eqb, ap, sym, subst, ◌∙◌}
 use Rattle.std.specs.Prelude.{if◌then◌else◌}
 use Rattle.std.specs.Int.{◌∣◌, IsGcd}
@@ -9,8 +9,8 @@ use Rattle.std.proofs.lemmas.Nat.Gcd.{IsGcd-from_mod, IsGcd-from_zero, dvd_trans
 use Rattle.std.proofs.lemmas.List.{get_or-map, length-map}
 use Rattle.std.proofs.lemmas.Int.{ints, unsigned_abs-mul}
 use Rattle.std.proofs.lemmas.List.Elements.{All-nil, All-cons, All-head, All-tail, All-map}
-use Rattle.lin_model.specs.Facts.{same_from_IsGcdOf}
-use Rattle.lin_model.specs.Form.{IsGcdOf, DividesAll}
+use Rattle.lin_model.specs.Facts.{IsGcdOf-divisor, divisor_from_IsGcdOf}
+use Rattle.lin_model.specs.Form.{divisor, DividesAll}
 use Rattle.lin_model.specs.Test.{passes}
 use Rattle.lin_model.specs.KeyAtom.{PlainKeyAtom}
 use Rattle.lin_model.specs.declared.atom.Atom.{Atom}
@@ -20,7 +20,8 @@ use Rattle.lin_model.specs.declared.op.Op.{Op}
 use Rattle.lin_model.specs.declared.op.Op.TheVariants.{Le as AtMost, Ge as AtLeast, Eq as Equals, Ne as Differs}
 use Rattle.lin_model.specs.Quotients.{floor_div, ceil_div}
 use Rattle.lin_model.specs.Integers.{times_assoc}
-use Rattle.canoniser.specs.Forms.{Outcome, always, never, says, gathered, oriented, divides, divided, reduced, alone, IsOutcome, ComesTo}
+use Rattle.canoniser.specs.declared.atom_form.AtomForm.TheVariants.{True, False, KeyAtom}
+use Rattle.canoniser.specs.Forms.{gathered, oriented, divides, divided, reduced, alone, primitive, primitive_of, canonical_form}
 use Rattle.canoniser.specs.Factors.{times}
 use Rattle.canoniser.proofs.Arithmetic.{floor_div-above, ceil_div-below}
 use Rattle.canoniser.proofs.LimitsLemmas.{gcd-positive, nonzero-oriented}
@@ -28,33 +29,6 @@ use Rattle.canoniser.proofs.MeaningLemmas.{Passes, passes-tells, times_same, div
 use Rattle.canoniser.proofs.ScalingLemmas.{scaled, Matches, same_bool, times_le, loose-matches, IsTimes, IsTimes-oriented}
 
 -- ---- the greatest common divisor
-
--- the greatest common divisor of two numbers, by Euclid's walk of at most so many steps
-gcd_of_two : (steps a b : ℕ) → b ≤ steps → (g : ℕ) × IsGcd a b g
-gcd_of_two steps a zero few = (a, IsGcd-from_zero a zero refl)
-gcd_of_two zero a (suc b) few = absurd (omega arith)
-gcd_of_two (suc steps) a (suc b) few =
-    let low : a % suc b < suc b = mod-lt a (omega arith) in
-    let next = gcd_of_two steps (suc b) (a % suc b) (omega arith) in
-    (next.0, IsGcd-from_mod a (suc b) next.0 next.1)
-
--- every form has one
-record HasGcd (form : List FormTerm) : Type 0 where
-  pub gcd : ℕ
-  pub is : IsGcdOf form gcd
-
-has_gcd : (form : List FormTerm) → HasGcd form
-has_gcd [] = record { gcd = 0; is = record { divides = All-nil (λ t. 0 ∣ unsigned_abs t.coef); greatest = λ d all. dvd-zero d } }
-has_gcd (t ∷ ts) =
-    let rest = has_gcd ts in
-    let two = gcd_of_two rest.gcd (unsigned_abs t.coef) rest.gcd (omega arith) in
-    let g = two.0 in record {
-      gcd = g;
-      is = record {
-        divides = All-cons (λ u. g ∣ unsigned_abs u.coef) t ts two.1.0 (λ k d lt. dvd_trans g two.1.1 (rest.is.divides k d lt));
-        greatest = λ e all. two.1.2 e (All-head (λ u. e ∣ unsigned_abs u.coef) t ts all) (rest.is.greatest e (All-tail (λ u. e ∣ unsigned_abs u.coef) t ts all));
-      };
-    }
 
 divides-scaled : (m g : ℕ) (form : List FormTerm) → DividesAll g form → DividesAll (m * g) (map (scaled m) form)
 divides-scaled m g form all =
@@ -67,17 +41,25 @@ divides-unscaled m g form h all k d lt =
     let here = all k (scaled m d) (omega (arith, length-map form (scaled m))) in
     dvd_of_mul-dvd-mul_left g h (subst (λ n. m * g ∣ n) (ap (λ (t : FormTerm). unsigned_abs t.coef) read ∙ size) here)
 
-gcd-scaled : (m g : ℕ) (form : List FormTerm) → 0 < m → IsGcdOf form g → IsGcdOf (map (scaled m) form) (m * g)
-gcd-scaled m g form h is =
-    let whole = has_gcd (map (scaled m) form) in
+divisor-scaled : (m : ℕ) (form : List FormTerm) → 0 < m → divisor (map (scaled m) form) ≡ m * divisor form
+divisor-scaled m form h =
+    let g = divisor form in
+    let is = IsGcdOf-divisor form in
+    let whole = divisor (map (scaled m) form) in
+    let whole_is = IsGcdOf-divisor (map (scaled m) form) in
     let one : DividesAll 1 form = λ k d lt. one-dvd (unsigned_abs (get_or form k d).coef) in
-    let by_m : m ∣ whole.gcd = subst (λ n. n ∣ whole.gcd) (omega arith) (whole.is.greatest (m * 1) (divides-scaled m 1 form one)) in
-    let rest = whole.gcd / m in
-    let product : m * rest ≡ whole.gcd = mul-div_cancel' m by_m in
-    let below : rest ∣ g = is.greatest rest (divides-unscaled m rest form h (subst (λ n. DividesAll n (map (scaled m) form)) (sym product) whole.is.divides)) in record {
+    let by_m : m ∣ whole =
+    subst (λ n. n ∣ whole) (omega arith) (whole_is.greatest (m * 1) (divides-scaled m 1 form one)) in
+    let rest = whole / m in
+    let product : m * rest ≡ whole = mul-div_cancel' m by_m in
+    let unscaled : DividesAll rest form =
+    divides-unscaled m rest form h (subst (λ n. DividesAll n (map (scaled m) form)) (sym product) whole_is.divides) in
+    let below : rest ∣ g = is.greatest rest unscaled in
+    sym (divisor_from_IsGcdOf (map (scaled m) form) (m * g) (record {
       divides = divides-scaled m g form is.divides;
-      greatest = λ e all. dvd_trans e (whole.is.greatest e all) (subst (λ n. n ∣ m * g) product (mul-dvd-mul_left rest m below));
-    }
+      greatest = λ e all.
+          dvd_trans e (whole_is.greatest e all) (subst (λ n. n ∣ m * g) product (mul-dvd-mul_left rest m below));
+    }))
 
 -- ---- quotients
 
@@ -136,21 +118,21 @@ reduced-times : (m g : ℕ) (form : List FormTerm) (op : Op) (c d : ℤ) → 0 <
 reduced-times m g form AtMost c d hm hg both =
     let parts = divided-scaled m g form hm hg in
     let quotient = floor_div-times m g c d hm hg both in
-    λ i. says (record { form = parts i; op = AtMost; constant = quotient i })
+    λ i. KeyAtom (record { form = parts i; op = AtMost; constant = quotient i })
 reduced-times m g form AtLeast c d hm hg both =
     let parts = divided-scaled m g form hm hg in
     let quotient = ceil_div-times m g c d hm hg both in
-    λ i. says (record { form = parts i; op = AtLeast; constant = quotient i })
+    λ i. KeyAtom (record { form = parts i; op = AtLeast; constant = quotient i })
 reduced-times m g form Equals c d hm hg e =
     let parts = divided-scaled m g form hm hg in
     let quotient = floor_div-times m g c d hm hg (loose-matches Le m c d hm e) in
     let test = divides-times m g c d hm e in
-    λ i. if test i then says (record { form = parts i; op = Equals; constant = quotient i }) else never
+    λ i. if test i then KeyAtom (record { form = parts i; op = Equals; constant = quotient i }) else False
 reduced-times m g form Differs c d hm hg e =
     let parts = divided-scaled m g form hm hg in
     let quotient = floor_div-times m g c d hm hg (loose-matches Le m c d hm e) in
     let test = divides-times m g c d hm e in
-    λ i. if test i then says (record { form = parts i; op = Differs; constant = quotient i }) else always
+    λ i. if test i then KeyAtom (record { form = parts i; op = Differs; constant = quotient i }) else True
 
 zero_same : (m : ℕ) (c d : ℤ) → 0 < m → d ≡ pos m *ℤ c → (pos 0 ≡ d) ↔ (pos 0 ≡ c)
 zero_same m c d h e = (
@@ -177,39 +159,30 @@ alone-times op m c d h both =
     let same = passes-zero op m c d h both in
     let of_d = passes-tells op d (pos 0) in
     let of_c = passes-tells op c (pos 0) in
-    ap (λ (test : Bool). if test then always else never) (same_bool (passes op d (pos 0)) (passes op c (pos 0)) (λ yes. of_c.1 (same.0 (of_d.0 yes))) (λ yes. of_d.1 (same.1 (of_c.0 yes))))
+    ap (λ (test : Bool). if test then True else False) (same_bool (passes op d (pos 0)) (passes op c (pos 0)) (λ yes. of_c.1 (same.0 (of_d.0 yes))) (λ yes. of_d.1 (same.1 (of_c.0 yes))))
 
--- ---- outcomes
+-- ---- forms
 
-outcome-times : (m : ℕ) (form : List FormTerm) (op : Op) (c d : ℤ) (outcome : Outcome) → 0 < m → All (λ t. t.coef ≢ pos 0) form → Matches op m c d → IsOutcome form op c outcome ↔ IsOutcome (map (scaled m) form) op d outcome
-outcome-times m [] op c d outcome h nonzero both =
-    let same = alone-times op m c d h both in
-    (λ is. is ∙ sym same, λ is. is ∙ same)
-outcome-times m (t ∷ ts) op c d outcome h nonzero both =
+primitive-times : (m : ℕ) (form : List FormTerm) (op : Op) (c d : ℤ) → 0 < m → All (λ t. t.coef ≢ pos 0) form
+    → Matches op m c d → primitive (map (scaled m) form) op d ≡ primitive form op c
+primitive-times m [] op c d h nonzero both = alone-times op m c d h both
+primitive-times m (t ∷ ts) op c d h nonzero both =
     let form : List FormTerm = t ∷ ts in
-    let own = has_gcd form in
-    let times_own = gcd-scaled m own.gcd form h own.is in
-    let same : (g : ℕ) → IsGcdOf form g → reduced (m * g) (map (scaled m) form) op d ≡ reduced g form op c = λ g is. reduced-times m g form op c d h (gcd-positive form g (omega arith) nonzero is) both in (
-      λ is. record {
-        divisor = m * is.divisor;
-        greatest = gcd-scaled m is.divisor form h is.greatest;
-        quotient = is.quotient ∙ sym (same is.divisor is.greatest);
-      },
-      λ is. record {
-        divisor = own.gcd;
-        greatest = own.is;
-        quotient = is.quotient ∙ ap (λ g. reduced g (map (scaled m) form) op d) (same_from_IsGcdOf (map (scaled m) form) is.divisor (m * own.gcd) is.greatest times_own) ∙ same own.gcd own.is;
-      },
-    )
+    let positive = gcd-positive form (divisor form) (omega arith) nonzero (IsGcdOf-divisor form) in
+    ap (λ g. reduced g (map (scaled m) form) op d) (divisor-scaled m form h)
+    ∙ reduced-times m (divisor form) form op c d h positive both
 
-outcome_is : (m : ℕ) (a b : PlainKeyAtom) (outcome : Outcome) → 0 < m → IsTimes m a b → All (λ t. t.coef ≢ pos 0) a.form → IsOutcome a.form a.op a.constant outcome ↔ IsOutcome b.form b.op b.constant outcome
-outcome_is m a b outcome h is nonzero =
-    let base = outcome-times m a.form a.op a.constant b.constant outcome h nonzero is.constant_is in (
-      λ made. subst (λ o. IsOutcome b.form o b.constant outcome) (sym is.op_is) (subst (λ f. IsOutcome f a.op b.constant outcome) (sym is.form_is) (base.0 made)),
-      λ made. base.1 (subst (λ f. IsOutcome f a.op b.constant outcome) is.form_is (subst (λ o. IsOutcome b.form o b.constant outcome) is.op_is made)),
-    )
+primitive_of-times : (m : ℕ) (a b : PlainKeyAtom) → 0 < m → IsTimes m a b → All (λ t. t.coef ≢ pos 0) a.form
+    → primitive_of b ≡ primitive_of a
+primitive_of-times m a b h is nonzero =
+    ap (λ f. primitive f b.op b.constant) is.form_is
+    ∙ ap (λ o. primitive (map (scaled m) a.form) o b.constant) is.op_is
+    ∙ primitive-times m a.form a.op a.constant b.constant h nonzero is.constant_is
 
--- what the multiplied atom comes to
-pub ComesTo-times : (order : List ℕ) (m : ℕ) (atom : Atom) (outcome : Outcome) → 0 < m → ComesTo order atom outcome ↔ ComesTo order (times m atom) outcome
-ComesTo-times order m atom outcome h =
-    outcome_is m (oriented (gathered order atom)) (oriented (gathered order (times m atom))) outcome h (IsTimes-oriented order m atom h) (nonzero-oriented order atom)
+-- the canonical form of the multiplied atom
+pub canonical_form-times : (order : List ℕ) (m : ℕ) (atom : Atom) → 0 < m
+    → canonical_form order (times m atom) ≡ canonical_form order atom
+unfolding canonical_form
+canonical_form-times order m atom h =
+    primitive_of-times m (oriented (gathered order atom)) (oriented (gathered order (times m atom))) h
+    (IsTimes-oriented order m atom h) (nonzero-oriented order atom)
