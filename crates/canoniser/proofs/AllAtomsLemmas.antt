@@ -6,7 +6,7 @@ use Rattle.std.proofs.lemmas.List.Elements.{Contains-get_or}
 use Rattle.lin_model.specs.Conditions.{PlainCondition, IsCondition, AtomFits}
 use Rattle.lin_model.specs.declared.atom.Atom.{Atom}
 use Rattle.lin_model.specs.KeyAtom.{IsCanonical}
-use Rattle.lin_model.specs.Lists.{Found-at, All-at}
+use Rattle.lin_model.specs.Lists.{Given-filter_map, Found-at, All-at}
 use Rattle.slicer.specs.Slices.{PlainSlice}
 use Rattle.canoniser.specs.declared.atom_form.AtomForm.{AtomForm}
 use Rattle.canoniser.specs.declared.atom_form.AtomForm.TheVariants.{True, False, KeyAtom}
@@ -16,7 +16,6 @@ use Rattle.canoniser.specs.Numbering.{atoms_of, order_of}
 use Rattle.canoniser.specs.Solutions.{NoneIsFalse, IsFirstFalse}
 use Rattle.canoniser.proofs.CanonicalLemmas.{key_atom-canonical}
 use Rattle.canoniser.proofs.KeyAtomsLemmas.{Contains-key_atoms}
-use Rattle.canoniser.proofs.NumberingLemmas.{Given-filter_map}
 use Rattle.canoniser.proofs.SliceLemmas.{IsWithin-slice}
 use Rattle.canoniser.proofs.TurnLemmas.{IsTurn, IsFirstFalse-turn, NoneIsFalse-turn}
 

@@ -8,7 +8,7 @@ use Rattle.lin_model.specs.Truth.{AtomHolds, IsAssignment}
 use Rattle.lin_model.specs.Form.{form_width}
 use Rattle.lin_model.specs.KeyAtom.{PlainKeyAtom, KeyAtomHolds}
 use Rattle.lin_model.specs.Key.{KeyHolds}
-use Rattle.lin_model.specs.Lists.{IsSomeAnd-found}
+use Rattle.lin_model.specs.Lists.{Given-filter_map, IsSomeAnd-found}
 use Rattle.slicer.specs.Laws.{HasNamed}
 use Rattle.slicer.specs.Slices.{PlainSlice}
 use Rattle.atom_implies.specs.Laws.{TableIsRight}
@@ -25,7 +25,7 @@ use Rattle.canoniser.proofs.KeyLemmas.{bound_holds, covered_holds, KeepsBounds-c
 use Rattle.canoniser.proofs.KeyWidthLemmas.{key_width-order, IsBounded-covered}
 use Rattle.canoniser.proofs.MeaningLemmas.{key_atom-holds, true-holds, false-is_false}
 use Rattle.canoniser.proofs.CanonicalLemmas.{key_atom-narrow}
-use Rattle.canoniser.proofs.NumberingLemmas.{order_of-distinct, order_of-vars, order_of-names, Given-filter_map}
+use Rattle.canoniser.proofs.NumberingLemmas.{order_of-distinct, order_of-vars, order_of-names}
 
 -- no canonical form is False where some integers satisfy each atom
 none_false : (c : PlainCondition) (s : PlainSlice) → NoneIsFalse c s.atoms

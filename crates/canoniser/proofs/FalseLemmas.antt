@@ -9,15 +9,17 @@ use Rattle.lin_model.specs.declared.atom.Atom.{Atom}
 use Rattle.lin_model.specs.declared.form.FormTerm.{FormTerm}
 use Rattle.lin_model.specs.declared.op.Op.{Op}
 use Rattle.lin_model.specs.declared.op.Op.TheVariants.{Le, Ge, Eq, Ne}
-use Rattle.slicer.specs.Names.{Names}
+use Rattle.slicer.specs.Names.{atom_vars, Names}
 use Rattle.canoniser.specs.declared.atom_form.AtomForm.{AtomForm}
 use Rattle.canoniser.specs.declared.atom_form.AtomForm.TheVariants.{True, False, KeyAtom}
 use Rattle.canoniser.specs.Forms.{gathered, oriented, divided, canonical_form}
+use Rattle.canoniser.specs.Numbering.{first_ones}
 use Rattle.canoniser.specs.Solutions.{point_of, IsFalse}
 use Rattle.canoniser.proofs.LimitsLemmas.{gcd-positive, nonzero-oriented}
 use Rattle.canoniser.proofs.CanonicalLemmas.{IsDivided-canonical}
 use Rattle.canoniser.proofs.MeaningLemmas.{Passes, HoldsAt, oriented-holds, canonical_form-means, divided-value, times_same}
 use Rattle.canoniser.proofs.MeaningLemmas.{true-holds, false-is_false}
+use Rattle.canoniser.proofs.NumberingLemmas.{first_ones-distinct, order_in-names}
 use Rattle.canoniser.proofs.ReachLemmas.{reaches}
 
 -- some number passes each test
@@ -59,3 +61,13 @@ is_false-tells order atom distinct named =
     by_form True is false = absurd (false [] (true-holds order atom distinct named is []))
     by_form False is false = is
     by_form (KeyAtom a) is false = absurd (key_atom-satisfied order atom a distinct named is false)
+
+-- the same over the variables of the atom alone, by a form that was made
+pub is_false-made : (order : List ℕ) (atom : Atom) (form : AtomForm) → order ≡ first_ones (atom_vars atom)
+    → form ≡ canonical_form order atom → IsFalse atom ↔ (form ≡ False)
+is_false-made order atom form numbered made =
+    let of_atom : (o : List ℕ) → o ≡ first_ones (atom_vars atom) → IsFalse atom ↔ (canonical_form o atom ≡ False) =
+    λ o is. is_false-tells o atom (subst (AllPairs ◌≢◌) (sym is) (first_ones-distinct (atom_vars atom)))
+    (λ v names. subst (λ (xs : List ℕ). Contains xs v) (sym is) (order_in-names atom v names)) in
+    let tells = of_atom order numbered in
+    (λ false. made ∙ tells.0 false, λ is. tells.1 (sym made ∙ is))

@@ -11,14 +11,13 @@ use Rattle.lin_model.specs.Conditions.{PlainCondition, AtomNamesBelow, Fits}
 use Rattle.lin_model.specs.declared.atom.Atom.{Atom}
 use Rattle.lin_model.specs.KeyAtom.{PlainKeyAtom}
 use Rattle.lin_model.specs.Facts.{AtomNamesBelow-larger}
-use Rattle.lin_model.specs.Lists.{IsSomeAnd-found}
+use Rattle.lin_model.specs.Lists.{Given-filter_map, Contains-filter_map, length-filter_map, IsSomeAnd-found}
 use Rattle.slicer.specs.Slices.{PlainSlice}
 use Rattle.canoniser.specs.declared.atom_form.AtomForm.{AtomForm}
 use Rattle.canoniser.specs.declared.atom_form.AtomForm.TheVariants.{True, False, KeyAtom}
 use Rattle.canoniser.specs.Forms.{canonical_form, key_atom_in, key_atoms}
 use Rattle.canoniser.specs.Numbering.{atoms_of}
 use Rattle.canoniser.specs.Solutions.{IsFalse, IsFalseAt, NoneIsFalse, IsFirstFalse}
-use Rattle.canoniser.proofs.NumberingLemmas.{Given-filter_map, Contains-filter_map, length-filter_map}
 
 -- the atoms of these numbers
 abbrev pub atoms_at : PlainCondition → List ℕ → List Atom

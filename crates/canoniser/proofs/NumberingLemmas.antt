@@ -1,15 +1,16 @@
 -- The variables of a slice, each at the place that is its number: which they are, and how many.
 use Rattle.std.proofs.Common.{◌≡◌, ◌≢◌, ℕ, suc, ◌<◌, ◌≤◌, ◌↔◌, ◌⊎◌, inl, inr, Bool, true, false, not, eqb, Option, Some, None, List, [], ◌∷◌, ◌++◌, length, get_or, refl, sym, ap, ◌∙◌, subst, arith, eqb-true}
-use Rattle.std.specs.Prelude.{◌==◌, if◌then◌else◌, AllPairs, Contains, IsSomeAnd}
+use Rattle.std.specs.Prelude.{All, ◌==◌, if◌then◌else◌, AllPairs, Contains, IsSomeAnd}
 use Rattle.std.specs.List.{IsDistinct, cons_option, filter_map, flat_map, slice_get}
 use Rattle.std.proofs.lemmas.Bool.Decides.{nat_tests, eqb_tells}
-use Rattle.std.proofs.lemmas.List.Elements.{All-contains, All-filter, All-contains_itself, All-weaker, filter_passes, recursion_from_All, Contains-append_left, Contains-append_right, Contains-append_cases}
+use Rattle.std.proofs.lemmas.List.Elements.{All-contains, All-filter, All-contains_itself, All-weaker, filter_passes, recursion_from_All, Contains-append_left, Contains-append_right, Contains-append_cases, Contains-get_or}
 use Rattle.std.proofs.lemmas.List.Kept.{AllPairs-cons, AllPairs-filter}
 use Rattle.std.proofs.lemmas.Map.Steps.{length-le_from_distinct_below}
 use Rattle.std.proofs.lemmas.Map.Views.{Contains-from_any}
-use Rattle.lin_model.specs.Conditions.{PlainCondition, Fits}
+use Rattle.lin_model.specs.Conditions.{PlainCondition, AtomNamesBelow, Fits}
 use Rattle.lin_model.specs.declared.atom.Atom.{Atom}
-use Rattle.lin_model.specs.Lists.{Contains-first, Contains-later, Contains-cases}
+use Rattle.lin_model.specs.Lists.{Given-filter_map, Contains-first, Contains-later, Contains-cases}
+use Rattle.slicer.specs.Facts.{below_from_Names}
 use Rattle.slicer.specs.Names.{atom_vars, Names}
 use Rattle.slicer.specs.Slices.{PlainSlice}
 use Rattle.slicer.specs.Laws.{HasNamed}
@@ -108,50 +109,6 @@ Source-flat_map f (y ∷ ys) a has =
       | inr later ↦ let rest = Source-flat_map f ys a later in record { element = rest.element; among = Contains-later y ys rest.element rest.among; piece = rest.piece }
     ]
 
--- some element gives it
-pub record Given {X Y : Type 0} (h : X → Option Y) (xs : List X) (y : Y) : Type 0 where
-  pub element : X
-  pub among : Contains xs element
-  pub gives : h element ≡ Some y
-
-one_given : {X Y : Type 0} (h : X → Option Y) (x : X) (xs : List X) (y : Y) (o : Option Y) → h x ≡ o → (Contains (filter_map h xs) y → Given h xs y) → Contains (cons_option o (filter_map h xs)) y → Given h (x ∷ xs) y
-one_given h x xs y None is rest has =
-    let later = rest has in record { element = later.element; among = Contains-later x xs later.element later.among; gives = later.gives }
-one_given h x xs y (Some z) is rest has =
-    elim (Contains-cases z (filter_map h xs) y has) [
-      | inl same ↦ record { element = x; among = Contains-first x xs; gives = is ∙ ap Some same }
-      | inr behind ↦ let later = rest behind in record { element = later.element; among = Contains-later x xs later.element later.among; gives = later.gives }
-    ]
-
-pub Given-filter_map : {X Y : Type 0} (h : X → Option Y) (xs : List X) (y : Y) → Contains (filter_map h xs) y → Given h xs y
-Given-filter_map h [] y has = absurd (omega (arith, has.1))
-Given-filter_map h (x ∷ xs) y has = one_given h x xs y (h x) refl (Given-filter_map h xs y) has
-
-Contains-cons_option : {Y : Type 0} (o : Option Y) (ys : List Y) (y : Y) → Contains ys y → Contains (cons_option o ys) y
-Contains-cons_option None ys y has = has
-Contains-cons_option (Some z) ys y has = Contains-later z ys y has
-
--- what an element gives is there
-pub Contains-filter_map : {X Y : Type 0} (h : X → Option Y) (xs : List X) (x : X) (y : Y) → Contains xs x
-    → h x ≡ Some y → Contains (filter_map h xs) y
-Contains-filter_map h [] x y has is = absurd (omega (arith, has.1))
-Contains-filter_map {X} {Y} h (z ∷ zs) x y has is =
-    elim (Contains-cases z zs x has) [
-      | inl same ↦
-          subst (λ (o : Option Y). Contains (cons_option o (filter_map h zs)) y) (sym (ap h same ∙ is))
-          (Contains-first y (filter_map h zs))
-      | inr later ↦ Contains-cons_option (h z) (filter_map h zs) y (Contains-filter_map h zs x y later is)
-    ]
-
--- no more are given than there are
-pub length-filter_map : {X Y : Type 0} (h : X → Option Y) (xs : List X) → length (filter_map h xs) ≤ length xs
-length-filter_map h [] = omega arith
-length-filter_map {X} {Y} h (x ∷ xs) = by_option (h x) (length-filter_map h xs)
-  where
-    by_option : (o : Option Y) → length (filter_map h xs) ≤ length xs → length (cons_option o (filter_map h xs)) ≤ suc (length xs)
-    by_option None le = omega arith
-    by_option (Some y) le = omega arith
-
 -- the order has each variable that an atom of the slice names
 pub order_of-names : (c : PlainCondition) (s : PlainSlice) (atom : Atom) → Contains (atoms_of c s) atom → (v : ℕ) → Names atom v → Contains (order_of c s) v
 order_of-names c s atom among v names =
@@ -180,3 +137,23 @@ order_of-below c s named slice v has = (IsWithin-slice c s slice).vars v ((order
 pub order_of-few : (c : PlainCondition) (s : PlainSlice) → Fits c.vars c.atoms → HasNamed c s → IsSliceIn c s → length (order_of c s) ≤ 64
 order_of-few c s fits named slice =
     omega (arith, few_distinct (order_of c s) (length c.vars) (order_of-distinct c s) (order_of-below c s named slice), fits.few_vars)
+
+-- ---- the order of one atom alone
+
+-- the variables of one atom, each once where it is named first
+abbrev order_in : Atom → List ℕ
+order_in atom = first_ones (atom_vars atom)
+
+pub order_in-names : (atom : Atom) (v : ℕ) → Names atom v → Contains (first_ones (atom_vars atom)) v
+order_in-names atom v names = (Contains-first_ones (atom_vars atom) v).1 names
+
+pub order_in-below : (atom : Atom) → AtomNamesBelow 64 atom → All (λ v. v < 64) (first_ones (atom_vars atom))
+order_in-below atom below k d lt =
+    let v = get_or (order_in atom) k d in
+    let names = (Contains-first_ones (atom_vars atom) v).0 (Contains-get_or (order_in atom) k d lt) in
+    below_from_Names 64 atom v below names
+
+pub order_in-few : (atom : Atom) → AtomNamesBelow 64 atom → length (first_ones (atom_vars atom)) ≤ 64
+order_in-few atom below =
+    few_distinct (order_in atom) 64 (first_ones-distinct (atom_vars atom))
+    (λ v has. below_from_Names 64 atom v below ((Contains-first_ones (atom_vars atom) v).0 has))

@@ -5,6 +5,7 @@ use Rattle.std.specs.List.{AllPairs, Contains}
 use Rattle.std.proofs.lemmas.List.{get_or_append_left, get_or_push, get_or-reverse, length-reverse, get_or_default, get_or-take, take_more}
 use Rattle.std.proofs.lemmas.Bool.Decides.{eqb_tells, nat_tests}
 use Rattle.lin_model.specs.KeyAtom.{PlainKeyAtom}
+use Rattle.lin_model.specs.Lists.{below_or_last}
 use Rattle.canoniser.specs.Parts.{IsPartOf, StandTogether, StandAtEnd}
 
 -- the place m for n, and otherwise that of before
@@ -16,9 +17,6 @@ placed-new place n m k is = grind (arith, nat_tests)
 
 placed-old : (place : ℕ → ℕ) (n m k : ℕ) → k < n → placed place n m k ≡ place k
 placed-old place n m k lt = grind (arith, nat_tests)
-
-below_or_last : (k n : ℕ) → k < n + 1 → (k < n) ⊎ (k ≡ n)
-below_or_last k n lt = elim (eqb_tells k n) [ inl same ↦ inr same.1 | inr other ↦ inl (let ne = other.1 in omega arith) ]
 
 pub IsPartOf-none : IsPartOf [] []
 IsPartOf-none = record {

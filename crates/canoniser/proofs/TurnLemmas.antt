@@ -6,6 +6,7 @@ use Rattle.std.proofs.Math.Seq.{take-length}
 use Rattle.lin_model.specs.Conditions.{PlainCondition, AtomNamesBelow, Fits}
 use Rattle.lin_model.specs.declared.atom.Atom.{Atom}
 use Rattle.lin_model.specs.KeyAtom.{PlainKeyAtom}
+use Rattle.lin_model.specs.Lists.{Contains-filter_map}
 use Rattle.slicer.specs.Laws.{HasNamed}
 use Rattle.slicer.specs.Slices.{PlainSlice}
 use Rattle.canoniser.specs.declared.atom_form.AtomForm.{AtomForm}
@@ -19,7 +20,7 @@ use Rattle.canoniser.proofs.SliceLemmas.{NamesOnly, IsWithin-slice}
 use Rattle.canoniser.proofs.KeyAtomsLemmas.{atoms_at, atoms_at-more, key_atoms-push, NoneIsFalse-more, IsFirstFalse-here}
 use Rattle.canoniser.proofs.KeyAtomsLemmas.{AtomNamesBelow-64}
 use Rattle.canoniser.proofs.FalseLemmas.{is_false-tells}
-use Rattle.canoniser.proofs.NumberingLemmas.{order_of-distinct, order_of-below, order_of-few, order_of-names, Contains-filter_map}
+use Rattle.canoniser.proofs.NumberingLemmas.{order_of-distinct, order_of-below, order_of-few, order_of-names}
 
 -- the atom stands at a place of the slice, whose variables are in this order
 pub record IsTurn (c : PlainCondition) (s : PlainSlice) (order : List ℕ) (i : ℕ) (atom : Atom) : Type 0 where

@@ -7,7 +7,7 @@ use Rattle.std.proofs.lemmas.List.Elements.{All-contains}
 use Rattle.lin_model.specs.Conditions.{PlainCondition}
 use Rattle.lin_model.specs.KeyAtom.{PlainKeyAtom}
 use Rattle.lin_model.specs.AtomOrder.{IsAtomOrder}
-use Rattle.lin_model.specs.Lists.{Found-from}
+use Rattle.lin_model.specs.Lists.{Contains-filter_map, Found-from}
 use Rattle.slicer.specs.Slices.{PlainSlice}
 use Rattle.canoniser.specs.declared.canonical.Canonical.{Canonical}
 use Rattle.canoniser.specs.declared.canonical.Canonical.TheVariants.{False as FalseAtom, Key}
@@ -19,7 +19,7 @@ use Rattle.canoniser.specs.OneKey.{KeysAreUnique}
 use Rattle.canoniser.specs.Numbering.{atoms_of, order_of}
 use Rattle.canoniser.specs.Solutions.{IsFalse, IsFirstFalse}
 use Rattle.canoniser.proofs.FalseLemmas.{is_false-tells}
-use Rattle.canoniser.proofs.NumberingLemmas.{order_of-distinct, order_of-names, Contains-filter_map}
+use Rattle.canoniser.proofs.NumberingLemmas.{order_of-distinct, order_of-names}
 use Rattle.canoniser.proofs.SortedLemmas.{same_from_Ascends}
 
 one_key : IsAtomOrder → (c : PlainCondition) (s : PlainSlice) (one other : List PlainKeyAtom) → IsKeyOf c s one → IsKeyOf c s other → one ≡ other

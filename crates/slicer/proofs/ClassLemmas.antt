@@ -9,13 +9,14 @@ use Rattle.std.proofs.lemmas.List.Elements.{All-nil, All-push, All-weaker, Conta
 use Rattle.std.proofs.lemmas.List.Quantifiers.{all_pairs_push, Any-push}
 use Rattle.std.proofs.lemmas.Bool.Decides.{eqb_tells}
 use Rattle.lin_model.specs.Conditions.{PlainCondition}
+use Rattle.lin_model.specs.Lists.{below_or_last}
 use Rattle.slicer.specs.declared.var_set.VarSet.{VarSet}
 use Rattle.slicer.specs.Linked.{Linked, alone}
 use Rattle.slicer.specs.Names.{Names}
 use Rattle.slicer.specs.Slices.{PlainSlice, Lists, IsSliceOf, AreClasses, least}
 use Rattle.slicer.specs.VarSets.{Has, Meet, AreSetsOf, IsReached}
 use Rattle.slicer.proofs.ChainLemmas.{Chain-append, Chain-turned}
-use Rattle.slicer.proofs.ListsLemmas.{below_or_last, Lists-same}
+use Rattle.slicer.proofs.ListsLemmas.{Lists-same}
 use Rattle.slicer.proofs.SetLemmas.{Linked-sets, NamesAt-sets}
 
 -- some slice has the variable

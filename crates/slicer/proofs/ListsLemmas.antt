@@ -3,6 +3,7 @@ use Rattle.std.proofs.Common.{◌≡◌, ◌↔◌, ℕ, ◌+◌, ◌<◌, List,
 use Rattle.std.proofs.lemmas.List.Elements.{Contains-append_left, Contains-push, Contains-push_cases, Contains-get_or}
 use Rattle.std.proofs.lemmas.List.Quantifiers.{all_pairs_push}
 use Rattle.std.proofs.lemmas.Bool.Decides.{eqb_tells}
+use Rattle.lin_model.specs.Lists.{below_or_last}
 use Rattle.slicer.specs.Slices.{Lists}
 
 -- those below a count
@@ -14,10 +15,6 @@ Lists-none P = record {
   ascending = λ i j d before within. absurd (omega arith);
   just = λ n. (λ has. absurd (omega (arith, has.1)), λ below. absurd (omega (arith, below.0)));
 }
-
--- a number that is below the count was before or is the last
-pub below_or_last : (n count : ℕ) → n < count + 1 → (n < count) ⊎ (n ≡ count)
-below_or_last n count lt = elim (eqb_tells n count) [ inl same ↦ inr same.1 | inr other ↦ inl (let ne = other.1 in omega arith) ]
 
 pub Lists-kept : (P : ℕ → Type 0) (count : ℕ) (numbers : List ℕ) → Lists (Below P count) numbers → P count → Lists (Below P (count + 1)) (numbers ++ count ∷ [])
 Lists-kept P count numbers so_far here = record {

@@ -10,23 +10,13 @@ use Rattle.lin_model.specs.Terms.{PlainTerm}
 use Rattle.lin_model.specs.Conditions.{PlainCondition, NamesBelow, AtomNamesBelow}
 use Rattle.lin_model.specs.declared.atom.Atom.{Atom}
 use Rattle.lin_model.specs.Lists.{Found-at, Found-from, IsSomeAnd-found, Contains-cases, nothing_in_nil}
+use Rattle.slicer.specs.Facts.{below_from_Names}
 use Rattle.slicer.specs.Linked.{longer}
 use Rattle.slicer.specs.Names.{Names, NamesAt, NamesNothingAt, NamesDeclared, side_vars, atom_vars}
 use Rattle.slicer.specs.Slices.{PlainSlice, IsSliceOf, AreClasses, IsVariableFree, IsFront, least}
 use Rattle.slicer.specs.Laws.{AreApart, HasNamed, SlicesPartition}
 use Rattle.slicer.proofs.ChainLemmas.{Chain-append, Chain-turned}
 use Rattle.slicer.proofs.UniqueLemmas.{least_is_same}
-
--- a side names only what is in range
-side_below : (n : ℕ) (terms : List PlainTerm) (v : ℕ) → NamesBelow n terms → Contains (side_vars terms) v → v < n
-side_below n [] v below names = absurd (nothing_in_nil v names)
-side_below n (t ∷ ts) v below names =
-    let P : PlainTerm → Type 0 = λ x. IfSome x.var (λ w. w < n) in
-    first_below n t.var ts v (All-head P t ts below) (side_below n ts v (All-tail P t ts below)) names
-  where
-    first_below : (n : ℕ) (var : Option ℕ) (ts : List PlainTerm) (v : ℕ) → IfSome var (λ w. w < n) → (Contains (side_vars ts) v → v < n) → Contains (cons_option var (side_vars ts)) v → v < n
-    first_below n None ts v first rest names = rest names
-    first_below n (Some w) ts v first rest names = elim (Contains-cases w (side_vars ts) v names) [ inl same ↦ omega arith | inr later ↦ rest later ]
 
 -- an atom names only declared variables
 atom_below : (c : PlainCondition) (j : ℕ) (v : ℕ) → NamesDeclared c → NamesAt c.atoms j v → v < length c.vars
@@ -35,10 +25,7 @@ atom_below c j v declared names =
     let atom = found.value in
     let within = slice_get_within c.atoms j atom found.is in
     let below : AtomNamesBelow (length c.vars) atom = subst (AtomNamesBelow (length c.vars)) (get_or_from_slice_get c.atoms j atom atom found.is) (declared j atom within) in
-    elim (Contains-append_cases (side_vars atom.left) (side_vars atom.right) v found.holds) [
-      | inl left ↦ side_below (length c.vars) atom.left v below.left left
-      | inr right ↦ side_below (length c.vars) atom.right v below.right right
-    ]
+    below_from_Names (length c.vars) atom v below found.holds
 
 -- two variables that one atom names are linked
 named_together : (c : PlainCondition) (j u v : ℕ) → NamesAt c.atoms j u → NamesAt c.atoms j v → Any (λ atom. Names atom u × Names atom v) c.atoms
