@@ -13,11 +13,11 @@ use Rattle.canoniser.specs.declared.atom_form.AtomForm.TheVariants.{True, False,
 use Rattle.canoniser.specs.Forms.{canonical_form, key_atoms}
 use Rattle.canoniser.specs.Keys.{IsSliceIn}
 use Rattle.canoniser.specs.Numbering.{atoms_of, order_of}
-use Rattle.canoniser.specs.Solutions.{NoneIsFalse, IsFirstFalse}
+use Rattle.canoniser.specs.Solutions.{NoneIsFalseAmong, IsFirstFalse}
 use Rattle.canoniser.proofs.CanonicalLemmas.{key_atom-canonical}
 use Rattle.canoniser.proofs.KeyAtomsLemmas.{Contains-key_atoms}
 use Rattle.canoniser.proofs.SliceLemmas.{IsWithin-slice}
-use Rattle.canoniser.proofs.TurnLemmas.{IsTurn, IsFirstFalse-turn, NoneIsFalse-turn}
+use Rattle.canoniser.proofs.TurnLemmas.{IsTurn, IsFirstFalse-turn, NoneIsFalseAmong-turn}
 
 pub record SomeFalse (c : PlainCondition) (s : PlainSlice) : Type 0 where
   pub number : ℕ
@@ -38,35 +38,35 @@ turn_of c s fits one i lt =
       turn = record { fits = fits.fits; slice = one; numbered = refl; place = lt; read = found.is };
     }
 
-none_more : (c : PlainCondition) (s : PlainSlice) (i : ℕ) → OneTurn c s i → NoneIsFalse c (take i s.atoms)
-    → NoneIsFalse c (take (i + 1) s.atoms) ⊎ SomeFalse c s
+none_more : (c : PlainCondition) (s : PlainSlice) (i : ℕ) → OneTurn c s i → NoneIsFalseAmong c (take i s.atoms)
+    → NoneIsFalseAmong c (take (i + 1) s.atoms) ⊎ SomeFalse c s
 none_more c s i here so_far = by_form (canonical_form (order_of c s) here.atom) refl
   where
     by_form : (form : AtomForm) → canonical_form (order_of c s) here.atom ≡ form
-        → NoneIsFalse c (take (i + 1) s.atoms) ⊎ SomeFalse c s
-    by_form True is = inl (NoneIsFalse-turn c s (order_of c s) i here.atom here.turn so_far (λ false. cc))
+        → NoneIsFalseAmong c (take (i + 1) s.atoms) ⊎ SomeFalse c s
+    by_form True is = inl (NoneIsFalseAmong-turn c s (order_of c s) i here.atom here.turn so_far (λ false. cc))
     by_form False is =
         let first = IsFirstFalse-turn c s (order_of c s) i here.atom here.turn so_far is in
         inr (record { number = get_or s.atoms i 0; first = first })
-    by_form (KeyAtom a) is = inl (NoneIsFalse-turn c s (order_of c s) i here.atom here.turn so_far (λ false. cc))
+    by_form (KeyAtom a) is = inl (NoneIsFalseAmong-turn c s (order_of c s) i here.atom here.turn so_far (λ false. cc))
 
 none_before : (c : PlainCondition) (s : PlainSlice) → IsCondition c → IsSliceIn c s → (i : ℕ) → i ≤ length s.atoms
-    → NoneIsFalse c (take i s.atoms) ⊎ SomeFalse c s
+    → NoneIsFalseAmong c (take i s.atoms) ⊎ SomeFalse c s
 none_before c s fits one zero few = inl (λ j has. absurd (omega (arith, has.1)))
 none_before c s fits one (suc i) few =
     let next : i + 1 ≡ suc i = omega arith in
     elim (none_before c s fits one i (omega arith)) [
       | inl so_far ↦
-          subst (λ (n : ℕ). NoneIsFalse c (take n s.atoms) ⊎ SomeFalse c s) next
+          subst (λ (n : ℕ). NoneIsFalseAmong c (take n s.atoms) ⊎ SomeFalse c s) next
           (none_more c s i (turn_of c s fits one i (omega arith)) so_far)
       | inr some ↦ inr some
     ]
 
 -- some integers satisfy each atom of the slice, or one is the first that none satisfy
 pub none_or_first : (c : PlainCondition) (s : PlainSlice) → IsCondition c → IsSliceIn c s
-    → NoneIsFalse c s.atoms ⊎ SomeFalse c s
+    → NoneIsFalseAmong c s.atoms ⊎ SomeFalse c s
 none_or_first c s fits one =
-    subst (λ (numbers : List ℕ). NoneIsFalse c numbers ⊎ SomeFalse c s) (take-length s.atoms)
+    subst (λ (numbers : List ℕ). NoneIsFalseAmong c numbers ⊎ SomeFalse c s) (take-length s.atoms)
     (none_before c s fits one (length s.atoms) (omega arith))
 
 -- the canonical atoms of a slice are canonical

@@ -18,7 +18,7 @@ use Rattle.canoniser.specs.Forms.{canonical_form, key_atoms}
 use Rattle.canoniser.specs.Numbering.{atoms_of, order_of}
 use Rattle.canoniser.specs.Keys.{IsGiven, IsStrongest, IsKeyOf}
 use Rattle.canoniser.specs.Strongest.{IsKeyWithBounds, IsOneOf}
-use Rattle.canoniser.specs.Solutions.{IsFalse, NoneIsFalse, point_of, SliceHolds, HaveSameSolutions, IsCanonised}
+use Rattle.canoniser.specs.Solutions.{IsFalse, NoneIsFalseAmong, point_of, SliceHolds, HaveSameSolutions, IsCanonised}
 use Rattle.canoniser.specs.SliceForms.{AreKeyAtoms}
 use Rattle.canoniser.proofs.KeyAtomsLemmas.{Contains-key_atoms}
 use Rattle.canoniser.proofs.KeyLemmas.{bound_holds, covered_holds, KeepsBounds-covered}
@@ -28,7 +28,7 @@ use Rattle.canoniser.proofs.CanonicalLemmas.{key_atom-narrow}
 use Rattle.canoniser.proofs.NumberingLemmas.{order_of-distinct, order_of-vars, order_of-names}
 
 -- no canonical form is False where some integers satisfy each atom
-none_false : (c : PlainCondition) (s : PlainSlice) → NoneIsFalse c s.atoms
+none_false : (c : PlainCondition) (s : PlainSlice) → NoneIsFalseAmong c s.atoms
     → All (λ atom. canonical_form (order_of c s) atom ≢ False) (atoms_of c s)
 none_false c s none k d lt is =
     let atom = get_or (atoms_of c s) k d in
@@ -63,7 +63,7 @@ one_of_IsGiven c s a given = elim given [
 abbrev IsKeyOfAtoms : PlainCondition → PlainSlice → List PlainKeyAtom → Type 0
 IsKeyOfAtoms c s key = IsKeyWithBounds c (order_of c s) (canonical_atoms c s) key
 
-IsKeyOf-made : (c : PlainCondition) (s : PlainSlice) (key : List PlainKeyAtom) → NoneIsFalse c s.atoms
+IsKeyOf-made : (c : PlainCondition) (s : PlainSlice) (key : List PlainKeyAtom) → NoneIsFalseAmong c s.atoms
     → IsKeyOfAtoms c s key → IsKeyOf c s key
 IsKeyOf-made c s key none is =
     let One = IsOneOf c (order_of c s) (canonical_atoms c s) in
@@ -100,7 +100,7 @@ key_holds c s key values is assignment holds k d lt =
     ]
 
 -- where the key holds, the slice's atoms hold
-slice_holds : (c : PlainCondition) (s : PlainSlice) (key : List PlainKeyAtom) (values : List ℤ) → NoneIsFalse c s.atoms
+slice_holds : (c : PlainCondition) (s : PlainSlice) (key : List PlainKeyAtom) (values : List ℤ) → NoneIsFalseAmong c s.atoms
     → IsKeyOfAtoms c s key → KeyHolds key (point_of (order_of c s) values) → SliceHolds c s values
 slice_holds c s key values none is holds k d lt = by_form (canonical_form (order_of c s) (get_or (atoms_of c s) k d)) refl
   where
@@ -119,7 +119,7 @@ slice_holds c s key values none is holds k d lt = by_form (canonical_form (order
         let covered = is.covered a (inl ((Contains-key_atoms (order_of c s) (atoms_of c s) a).1 any)) in
         (holds_at c s a values any).1 (covered_holds key a (point_of (order_of c s) values) covered holds)
 
-HaveSameSolutions-made : (c : PlainCondition) (s : PlainSlice) (key : List PlainKeyAtom) → NoneIsFalse c s.atoms
+HaveSameSolutions-made : (c : PlainCondition) (s : PlainSlice) (key : List PlainKeyAtom) → NoneIsFalseAmong c s.atoms
     → IsKeyOfAtoms c s key → HaveSameSolutions c s (order_of c s) key
 HaveSameSolutions-made c s key none is values assignment =
     (key_holds c s key values is assignment, slice_holds c s key values none is)
@@ -134,7 +134,7 @@ canonical_narrow c s k d lt =
     key_atom-narrow order any.1 a any.4
 
 IsCanonised-of : TableIsRight → (c : PlainCondition) (s : PlainSlice) (key : List PlainKeyAtom) → HasNamed c s
-    → NoneIsFalse c s.atoms → IsKeyOfAtoms c s key → IsCanonised c s (order_of c s) key
+    → NoneIsFalseAmong c s.atoms → IsKeyOfAtoms c s key → IsCanonised c s (order_of c s) key
 IsCanonised-of right c s key named none is =
     let order = order_of c s in
     let canonical = canonical_atoms c s in

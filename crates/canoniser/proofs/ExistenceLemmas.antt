@@ -13,7 +13,7 @@ use Rattle.canoniser.specs.Keys.{IsSliceIn}
 use Rattle.canoniser.specs.Forms.{key_atoms}
 use Rattle.canoniser.specs.Numbering.{atoms_of, order_of}
 use Rattle.canoniser.specs.SliceForms.{AreKeyAtoms}
-use Rattle.canoniser.specs.Solutions.{NoneIsFalse}
+use Rattle.canoniser.specs.Solutions.{NoneIsFalseAmong}
 use Rattle.canoniser.specs.OneKey.{HasCanonical, EachHasCanonical}
 use Rattle.canoniser.specs.Strongest.{IsKeyWithBounds}
 use Rattle.canoniser.proofs.AllAtomsLemmas.{none_or_first, key_atoms-canonical}
@@ -35,7 +35,7 @@ key_fits c order canonical key few fit is k d lt =
     ]
 
 canonical_of : IsAtomOrder → TableIsRight → (c : PlainCondition) (s : PlainSlice) → IsCondition c → HasNamed c s → IsSliceIn c s
-    → NoneIsFalse c s.atoms → HasCanonical c s
+    → NoneIsFalseAmong c s.atoms → HasCanonical c s
 canonical_of atom_order right c s fits named one none =
     let order = order_of c s in
     let ordered = IsOrder-slice c s order fits.fits named one refl in

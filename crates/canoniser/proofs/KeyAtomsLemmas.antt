@@ -17,7 +17,7 @@ use Rattle.canoniser.specs.declared.atom_form.AtomForm.{AtomForm}
 use Rattle.canoniser.specs.declared.atom_form.AtomForm.TheVariants.{True, False, KeyAtom}
 use Rattle.canoniser.specs.Forms.{canonical_form, key_atom_in, key_atoms}
 use Rattle.canoniser.specs.Numbering.{atoms_of}
-use Rattle.canoniser.specs.Solutions.{IsFalse, IsFalseAt, NoneIsFalse, IsFirstFalse}
+use Rattle.canoniser.specs.Solutions.{IsFalse, IsFalseAt, NoneIsFalseAmong, IsFirstFalse}
 
 -- the atoms of these numbers
 abbrev pub atoms_at : PlainCondition → List ℕ → List Atom
@@ -70,10 +70,10 @@ pub IsFalseAt-found : (c : PlainCondition) (j : ℕ) (atom : Atom) → slice_get
     → IsFalse atom
 IsFalseAt-found c j atom is at = subst (λ (o : Option Atom). IsSomeAnd o IsFalse) is at
 
-pub NoneIsFalse-more : (c : PlainCondition) (numbers : List ℕ) (i : ℕ) (atom : Atom) → i < length numbers
-    → slice_get c.atoms (get_or numbers i 0) ≡ Some atom → NoneIsFalse c (take i numbers) → ¬ IsFalse atom
-    → NoneIsFalse c (take (i + 1) numbers)
-NoneIsFalse-more c numbers i atom lt is so_far satisfied j has at =
+pub NoneIsFalseAmong-more : (c : PlainCondition) (numbers : List ℕ) (i : ℕ) (atom : Atom) → i < length numbers
+    → slice_get c.atoms (get_or numbers i 0) ≡ Some atom → NoneIsFalseAmong c (take i numbers) → ¬ IsFalse atom
+    → NoneIsFalseAmong c (take (i + 1) numbers)
+NoneIsFalseAmong-more c numbers i atom lt is so_far satisfied j has at =
     let number = get_or numbers i 0 in
     elim (Contains-push_cases (take i numbers) number j (subst (λ (xs : List ℕ). Contains xs j) (take_more numbers i 0 lt) has)) [
       | inl earlier ↦ so_far j earlier at
@@ -95,7 +95,7 @@ Contains-before xs i x ascending lt has below =
 
 -- the first of ascending numbers
 pub IsFirstFalse-here : (c : PlainCondition) (s : PlainSlice) (i : ℕ) (atom : Atom) → AllPairs ◌<◌ s.atoms
-    → i < length s.atoms → slice_get c.atoms (get_or s.atoms i 0) ≡ Some atom → NoneIsFalse c (take i s.atoms)
+    → i < length s.atoms → slice_get c.atoms (get_or s.atoms i 0) ≡ Some atom → NoneIsFalseAmong c (take i s.atoms)
     → IsFalse atom → IsFirstFalse c s (get_or s.atoms i 0)
 IsFirstFalse-here c s i atom ascending lt is so_far false =
     let j = get_or s.atoms i 0 in

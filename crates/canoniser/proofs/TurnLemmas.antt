@@ -14,10 +14,10 @@ use Rattle.canoniser.specs.declared.atom_form.AtomForm.TheVariants.{True, False,
 use Rattle.canoniser.specs.Forms.{canonical_form, key_atom_in, key_atoms}
 use Rattle.canoniser.specs.Numbering.{atoms_of, order_of}
 use Rattle.canoniser.specs.Keys.{IsSliceIn}
-use Rattle.canoniser.specs.Solutions.{IsFalse, NoneIsFalse, IsFirstFalse}
+use Rattle.canoniser.specs.Solutions.{IsFalse, NoneIsFalseAmong, IsFirstFalse}
 use Rattle.canoniser.specs.SliceForms.{AreKeyAtoms}
 use Rattle.canoniser.proofs.SliceLemmas.{NamesOnly, IsWithin-slice}
-use Rattle.canoniser.proofs.KeyAtomsLemmas.{atoms_at, atoms_at-more, key_atoms-push, NoneIsFalse-more, IsFirstFalse-here}
+use Rattle.canoniser.proofs.KeyAtomsLemmas.{atoms_at, atoms_at-more, key_atoms-push, NoneIsFalseAmong-more, IsFirstFalse-here}
 use Rattle.canoniser.proofs.KeyAtomsLemmas.{AtomNamesBelow-64}
 use Rattle.canoniser.proofs.FalseLemmas.{is_false-tells}
 use Rattle.canoniser.proofs.NumberingLemmas.{order_of-distinct, order_of-below, order_of-few, order_of-names}
@@ -71,22 +71,22 @@ is_false-turn c s order i atom turn =
     is_false-tells order atom (distinct-turn c s order turn.numbered) (NamesOnly-turn c s order i atom turn)
 
 pub IsFirstFalse-turn : (c : PlainCondition) (s : PlainSlice) (order : List ℕ) (i : ℕ) (atom : Atom)
-    → IsTurn c s order i atom → NoneIsFalse c (take i s.atoms) → canonical_form order atom ≡ False
+    → IsTurn c s order i atom → NoneIsFalseAmong c (take i s.atoms) → canonical_form order atom ≡ False
     → IsFirstFalse c s (get_or s.atoms i 0)
 IsFirstFalse-turn c s order i atom turn before is =
     let false = (is_false-turn c s order i atom turn).1 is in
     IsFirstFalse-here c s i atom (IsWithin-slice c s turn.slice).ascending turn.place turn.read before false
 
-pub NoneIsFalse-turn : (c : PlainCondition) (s : PlainSlice) (order : List ℕ) (i : ℕ) (atom : Atom)
-    → IsTurn c s order i atom → NoneIsFalse c (take i s.atoms) → canonical_form order atom ≢ False
-    → NoneIsFalse c (take (i + 1) s.atoms)
-NoneIsFalse-turn c s order i atom turn before other =
-    NoneIsFalse-more c s.atoms i atom turn.place turn.read before
+pub NoneIsFalseAmong-turn : (c : PlainCondition) (s : PlainSlice) (order : List ℕ) (i : ℕ) (atom : Atom)
+    → IsTurn c s order i atom → NoneIsFalseAmong c (take i s.atoms) → canonical_form order atom ≢ False
+    → NoneIsFalseAmong c (take (i + 1) s.atoms)
+NoneIsFalseAmong-turn c s order i atom turn before other =
+    NoneIsFalseAmong-more c s.atoms i atom turn.place turn.read before
     (λ false. other ((is_false-turn c s order i atom turn).0 false))
 
 -- some integers satisfy each atom before a place, and these are their canonical atoms
 pub record AreKeyAtomsBefore (c : PlainCondition) (s : PlainSlice) (order : List ℕ) (i : ℕ) (canonical : List PlainKeyAtom) : Type 0 where
-  pub none_false : NoneIsFalse c (take i s.atoms)
+  pub none_false : NoneIsFalseAmong c (take i s.atoms)
   pub are : canonical ≡ key_atoms order (atoms_at c (take i s.atoms))
 
 -- one more atom
@@ -104,7 +104,7 @@ pub AreKeyAtomsBefore-true : (c : PlainCondition) (s : PlainSlice) (order : List
     (canonical : List PlainKeyAtom) → IsTurn c s order i atom → AreKeyAtomsBefore c s order i canonical
     → canonical_form order atom ≡ True → AreKeyAtomsBefore c s order (i + 1) canonical
 AreKeyAtomsBefore-true c s order i atom canonical turn before is = record {
-  none_false = NoneIsFalse-turn c s order i atom turn before.none_false (λ false. cc);
+  none_false = NoneIsFalseAmong-turn c s order i atom turn before.none_false (λ false. cc);
   are = sym (append-nil canonical) ∙ more_key_atoms c s order i atom canonical True turn before is;
 }
 
@@ -114,7 +114,7 @@ pub AreKeyAtomsBefore-key_atom : (c : PlainCondition) (s : PlainSlice) (order : 
     → AreKeyAtomsBefore c s order i canonical → canonical_form order atom ≡ KeyAtom a
     → AreKeyAtomsBefore c s order (i + 1) (canonical ++ a ∷ [])
 AreKeyAtomsBefore-key_atom c s order i atom canonical a turn before is = record {
-  none_false = NoneIsFalse-turn c s order i atom turn before.none_false (λ false. cc);
+  none_false = NoneIsFalseAmong-turn c s order i atom turn before.none_false (λ false. cc);
   are = more_key_atoms c s order i atom canonical (KeyAtom a) turn before is;
 }
 
@@ -128,7 +128,7 @@ pub AreKeyAtoms-all : (c : PlainCondition) (s : PlainSlice) (order : List ℕ) (
 AreKeyAtoms-all c s order i canonical numbered end before =
     let all : take i s.atoms ≡ s.atoms = ap (λ (n : ℕ). take n s.atoms) end ∙ take-length s.atoms in
     record {
-      none_false = subst (NoneIsFalse c) all before.none_false;
+      none_false = subst (NoneIsFalseAmong c) all before.none_false;
       are = before.are ∙ ap (λ (o : List ℕ). key_atoms o (atoms_at c (take i s.atoms))) numbered
           ∙ ap (λ (numbers : List ℕ). key_atoms (order_of c s) (atoms_at c numbers)) all;
     }

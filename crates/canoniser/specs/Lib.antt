@@ -12,3 +12,4 @@ pub mod Answers
 pub mod OneKey
 pub mod Factors
 pub mod Laws
+pub mod Facts

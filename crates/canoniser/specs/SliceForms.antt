@@ -7,11 +7,11 @@ use Rattle.canoniser.specs.declared.slice_forms.SliceForms.{SliceForms}
 use Rattle.canoniser.specs.declared.slice_forms.SliceForms.TheVariants.{False, Atoms}
 use Rattle.canoniser.specs.Forms.{key_atoms}
 use Rattle.canoniser.specs.Numbering.{atoms_of, order_of}
-use Rattle.canoniser.specs.Solutions.{IsFirstFalse, NoneIsFalse}
+use Rattle.canoniser.specs.Solutions.{IsFirstFalse, NoneIsFalseAmong}
 
 -- some integers satisfy each atom of the slice, and these are their canonical atoms
 pub record AreKeyAtoms (c : PlainCondition) (s : PlainSlice) (canonical : List PlainKeyAtom) : Type 0 where
-  pub none_false : NoneIsFalse c s.atoms
+  pub none_false : NoneIsFalseAmong c s.atoms
   pub are : canonical ≡ key_atoms (order_of c s) (atoms_of c s)
 
 -- the first atom that no integers satisfy, where there is one; otherwise the canonical atoms

@@ -21,8 +21,8 @@ abbrev pub IsFalseAt : PlainCondition → ℕ → Type 0
 IsFalseAt c j = IsSomeAnd (slice_get c.atoms j) IsFalse
 
 -- none of the numbers is that of an atom that no integers satisfy
-abbrev pub NoneIsFalse : PlainCondition → List ℕ → Type 0
-NoneIsFalse c numbers = (j : ℕ) → Contains numbers j → ¬ IsFalseAt c j
+abbrev pub NoneIsFalseAmong : PlainCondition → List ℕ → Type 0
+NoneIsFalseAmong c numbers = (j : ℕ) → Contains numbers j → ¬ IsFalseAt c j
 
 -- the slice has this atom, no integers satisfy it, and some satisfy each that comes before it
 pub record IsFirstFalse (c : PlainCondition) (s : PlainSlice) (j : ℕ) : Type 0 where
@@ -49,7 +49,7 @@ KeepsBounds c order key = (point : List ℤ) → KeyHolds key point → (v : ℕ
 
 -- the slice has this key, and these are its variables in the order of their numbers
 pub record IsCanonised (c : PlainCondition) (s : PlainSlice) (order : List ℕ) (key : List PlainKeyAtom) : Type 0 where
-  pub none_false : NoneIsFalse c s.atoms
+  pub none_false : NoneIsFalseAmong c s.atoms
   pub numbered : order ≡ order_of c s
   pub vars : (v : ℕ) → Contains order v ↔ Contains s.vars v
   pub is_key : IsKeyOf c s key

@@ -13,7 +13,7 @@ use Rattle.pipeline.specs.declared.answer.Told.TheVariants.{Sat, UnsatAtom, Unkn
 use Rattle.pipeline.specs.Asking.{IsAsked}
 use Rattle.pipeline.specs.Keyed.{AreKeyed}
 use Rattle.pipeline.specs.Laws.{HasRightAnswer, EachHasAnswer}
-use Rattle.pipeline.proofs.EachKeyedLemmas.{KeepsLimits, SomeKeys, keys_or_impossible}
+use Rattle.pipeline.proofs.EachKeyedLemmas.{KeepsLimits, SomeKeys, keys_or_false}
 use Rattle.pipeline.proofs.VerdictLemmas.{right_unknown, right_sat, right_unsat_atom}
 use Rattle.pipeline.proofs.AskNextLemmas.{AskedBelow, none_asked, next_of, ask_next}
 
@@ -57,10 +57,10 @@ answer_of_keys below budget q fits some =
 
 pub answers_exist : Below → EachHasAnswer
 answers_exist below budget q fits =
-    elim (keys_or_impossible below.slices below.parts below.canonicals q fits) [
+    elim (keys_or_false below.slices below.parts below.canonicals q fits) [
       | inl some ↦ answer_of_keys below budget q fits some
-      | inr impossible ↦ record {
-        answer = record { verdict = UnsatAtom impossible.number; parts = [] };
-        right = right_unsat_atom budget q impossible.number [] impossible.is refl;
+      | inr some ↦ record {
+        answer = record { verdict = UnsatAtom some.number; parts = [] };
+        right = right_unsat_atom budget q some.number [] some.is refl;
       }
     ]

@@ -13,9 +13,9 @@ use Rattle.canoniser.specs.declared.canonical.Canonical.TheVariants.{False, Key}
 use Rattle.canoniser.specs.Answers.{Canonises}
 use Rattle.canoniser.specs.OneKey.{AreWithinLimits, IsWithinLimits, EachHasCanonical}
 use Rattle.pipeline.specs.declared.slice_keys.SliceKey.{SliceKey}
-use Rattle.pipeline.specs.Keyed.{AreKeyed, IsImpossible, HasKey, IsLeastFalse, least_with, keys_in}
+use Rattle.pipeline.specs.Keyed.{AreKeyed, HasLeastFalse, HasKey, IsLeastFalseAmong, least_with, keys_in}
 use Rattle.pipeline.proofs.KeyedLemmas.{IsLeastSoFar, least_more}
-use Rattle.pipeline.proofs.SliceLemmas.{least_is_never, keys_are_keyed}
+use Rattle.pipeline.proofs.SliceLemmas.{least_is_false, keys_are_keyed}
 
 -- ---- what each slice comes to
 
@@ -50,16 +50,16 @@ least_of canonicals (suc i) few =
     let next : i + 1 ≡ suc i = omega arith in
     record { least = least_with before.least c; is = subst (λ (n : ℕ). IsLeastSoFar (take n canonicals) (least_with before.least c)) next more }
 
-record SomeFalse (canonicals : List Canonical) : Type 0 where
+record SomeFalseAmong (canonicals : List Canonical) : Type 0 where
   pub number : ℕ
-  pub least : IsLeastFalse canonicals number
+  pub least : IsLeastFalseAmong canonicals number
 
-false_or_keys : (canonicals : List Canonical) → SomeFalse canonicals ⊎ All HasKey canonicals
+false_or_keys : (canonicals : List Canonical) → SomeFalseAmong canonicals ⊎ All HasKey canonicals
 false_or_keys canonicals =
     let all = least_of canonicals (length canonicals) (omega arith) in
     by_least all.least (subst (λ (cs : List Canonical). IsLeastSoFar cs all.least) (take-length canonicals) all.is)
   where
-    by_least : (least : Option ℕ) → IsLeastSoFar canonicals least → SomeFalse canonicals ⊎ All HasKey canonicals
+    by_least : (least : Option ℕ) → IsLeastSoFar canonicals least → SomeFalseAmong canonicals ⊎ All HasKey canonicals
     by_least None keys = inr keys
     by_least (Some j) least = inl (record { number = j; least = least })
 
@@ -80,9 +80,9 @@ limits_in (Key key back ∷ canonicals) limits =
     limits_by (nat_lt 0 (length back)) (record { key = key; back = back }) (keys_in canonicals) (All-head IsWithinLimits (Key key back) canonicals limits) (limits_in canonicals (All-tail IsWithinLimits (Key key back) canonicals limits))
 
 -- the query's least atom that no integers satisfy
-pub record SomeImpossible (q : PlainCondition) : Type 0 where
+pub record SomeFalse (q : PlainCondition) : Type 0 where
   pub number : ℕ
-  pub is : IsImpossible q number
+  pub is : HasLeastFalse q number
 
 -- the keys of a query's slices, within the limits of their types
 pub record SomeKeys (q : PlainCondition) : Type 0 where
@@ -90,14 +90,14 @@ pub record SomeKeys (q : PlainCondition) : Type 0 where
   pub are : AreKeyed q keys
   pub limits : All KeepsLimits keys
 
-pub keys_or_impossible : EachHasSlices → SlicesPartition → EachHasCanonical → (q : PlainCondition) → IsCondition q → SomeKeys q ⊎ SomeImpossible q
-keys_or_impossible slices_exist parts canonical_exists q fits =
+pub keys_or_false : EachHasSlices → SlicesPartition → EachHasCanonical → (q : PlainCondition) → IsCondition q → SomeKeys q ⊎ SomeFalse q
+keys_or_false slices_exist parts canonical_exists q fits =
     let some = slices_exist q in
     let all = canonicals_of canonical_exists q fits some.slices some.are some.slices (λ s has. has) in
     elim (false_or_keys all.canonicals) [
       | inl one ↦ inr (record {
         number = one.number;
-        is = record { slices = some.slices; are = some.are; least = least_is_never q some.slices all.canonicals one.number parts fits.fits some.are all.each one.least };
+        is = record { slices = some.slices; are = some.are; least = least_is_false q some.slices all.canonicals one.number parts fits.fits some.are all.each one.least };
       })
       | inr keys ↦ inl (record {
         keys = keys_in all.canonicals;

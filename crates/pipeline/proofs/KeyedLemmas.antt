@@ -7,7 +7,7 @@ use Rattle.std.proofs.lemmas.List.Elements.{All-push, Contains-push, Contains-ap
 use Rattle.canoniser.specs.declared.canonical.Canonical.{Canonical}
 use Rattle.canoniser.specs.declared.canonical.Canonical.TheVariants.{False, Key}
 use Rattle.pipeline.specs.declared.slice_keys.SliceKey.{SliceKey}
-use Rattle.pipeline.specs.Keyed.{HasKey, IsNotBelow, IsLeastFalse, least_with, keys_in}
+use Rattle.pipeline.specs.Keyed.{HasKey, IsNotBelow, IsLeastFalseAmong, least_with, keys_in}
 
 -- ---- lists
 
@@ -26,7 +26,7 @@ front_more {X} xs i x lt is = take_more xs i x lt ∙ ap (λ (y : X). take i xs 
 
 -- what is said of the least number so far
 abbrev pub IsLeastSoFar : List Canonical → Option ℕ → Type 0
-IsLeastSoFar cs least = MatchOption least (All HasKey cs) (IsLeastFalse cs)
+IsLeastSoFar cs least = MatchOption least (All HasKey cs) (IsLeastFalseAmong cs)
 
 not_below_all : (j : ℕ) (cs : List Canonical) → All HasKey cs → All (IsNotBelow j) cs
 not_below_all j cs h k d lt = of (get_or cs k d) (h k d lt)
@@ -42,11 +42,11 @@ lower_all i j cs le h k d lt = of (get_or cs k d) (h k d lt)
     of (False n) k = omega (arith, le, k)
     of (Key key back) k = tt
 
-lesser_stays : (cs : List Canonical) (i j : ℕ) → IsLeastFalse cs i → i < j → IsLeastFalse (cs ++ False j ∷ []) (min i j)
-lesser_stays cs i j h lt = subst (IsLeastFalse (cs ++ False j ∷ [])) (omega (arith, lt)) (record { one = Contains-append_left cs (False j ∷ []) (False i) h.one; least = All-push (IsNotBelow i) cs (False j) h.least (omega (arith, lt)) })
+lesser_stays : (cs : List Canonical) (i j : ℕ) → IsLeastFalseAmong cs i → i < j → IsLeastFalseAmong (cs ++ False j ∷ []) (min i j)
+lesser_stays cs i j h lt = subst (IsLeastFalseAmong (cs ++ False j ∷ [])) (omega (arith, lt)) (record { one = Contains-append_left cs (False j ∷ []) (False i) h.one; least = All-push (IsNotBelow i) cs (False j) h.least (omega (arith, lt)) })
 
-lesser_comes : (cs : List Canonical) (i j : ℕ) → IsLeastFalse cs i → j ≤ i → IsLeastFalse (cs ++ False j ∷ []) (min i j)
-lesser_comes cs i j h le = subst (IsLeastFalse (cs ++ False j ∷ [])) (omega (arith, le)) (record { one = Contains-push cs (False j); least = All-push (IsNotBelow j) cs (False j) (lower_all j i cs le h.least) (omega arith) })
+lesser_comes : (cs : List Canonical) (i j : ℕ) → IsLeastFalseAmong cs i → j ≤ i → IsLeastFalseAmong (cs ++ False j ∷ []) (min i j)
+lesser_comes cs i j h le = subst (IsLeastFalseAmong (cs ++ False j ∷ [])) (omega (arith, le)) (record { one = Contains-push cs (False j); least = All-push (IsNotBelow j) cs (False j) (lower_all j i cs le h.least) (omega arith) })
 
 least_step : (cs : List Canonical) (least : Option ℕ) (c : Canonical) → IsLeastSoFar cs least → IsLeastSoFar (cs ++ c ∷ []) (least_with least c)
 least_step cs None (False j) h = record {

@@ -11,13 +11,13 @@ use Rattle.lin_model.specs.declared.atom.Atom.{Atom}
 use Rattle.lin_model.specs.Conditions.{PlainCondition, Fits, IsSatisfiable}
 use Rattle.slicer.specs.Slices.{PlainSlice}
 use Rattle.slicer.specs.Laws.{SlicesPartition}
-use Rattle.canoniser.specs.Solutions.{IsNever, IsNeverAt, point_of}
+use Rattle.canoniser.specs.Solutions.{IsFalse, IsFalseAt, point_of}
 use Rattle.pipeline.specs.declared.slice_keys.SliceKey.{SliceKey}
 use Rattle.pipeline.specs.declared.answer.PlainPart.{PlainPart}
 use Rattle.pipeline.specs.declared.answer.PlainPart.TheVariants.{Solved, Open}
 use Rattle.pipeline.specs.declared.answer.Told.TheVariants.{Sat, UnsatAtom, UnsatSlice, Unknown}
 use Rattle.pipeline.specs.Answers.{IsModelOf, IsRefuted, IsGivenBy, Leaves, HasNoModel, IsRightAnswer}
-use Rattle.pipeline.specs.Keyed.{IsKeyed, AreKeyed, IsImpossible}
+use Rattle.pipeline.specs.Keyed.{IsKeyed, AreKeyed, HasLeastFalse}
 use Rattle.pipeline.specs.Asking.{KeyLeaves, IsMet, IsAsked}
 use Rattle.pipeline.proofs.AskLemmas.{get-last, all_met}
 use Rattle.pipeline.proofs.ClassLemmas.{no_slice, keyed, unsat_by_slice, sat_by_keys}
@@ -64,7 +64,7 @@ right_unsat budget q keys h parts least values i k lt is asked long refuted = re
   classes = h.are.classes;
   are = h.are.linked;
   verdict = record {
-    possible = h.possible;
+    none_false = h.none_false;
     asked = length_push parts Solved ∙ ap (λ (n : ℕ). n + 1) parts_long;
     before = subst (AllZip (Leaves budget q) (take i h.are.classes)) (sym front) (zip_leaves budget q values (take i h.are.classes) (take i keys) parts (zip_take (IsKeyed q) i h.are.classes keys h.each) asked.leaves);
     last = ap (slice_get (parts ++ Solved ∷ [])) (sym parts_long) ∙ get-last parts Solved;
@@ -83,7 +83,7 @@ pub right_unknown : (budget : ℕ) (q : PlainCondition) (keys : List SliceKey) (
 right_unknown budget q keys h parts s values asked = record {
   classes = h.are.classes;
   are = h.are.linked;
-  verdict = record { possible = h.possible; left = zip_leaves budget q values h.are.classes keys parts h.each asked.leaves; first = asked.first };
+  verdict = record { none_false = h.none_false; left = zip_leaves budget q values h.are.classes keys parts h.each asked.leaves; first = asked.first };
 }
 
 pub right_sat : (budget : ℕ) (q : PlainCondition) (keys : List SliceKey) (h : AreKeyed q keys) (parts : List PlainPart) (values : List ℤ) → SlicesPartition → Fits q.vars q.atoms → IsAsked budget q keys parts None values → IsRightAnswer budget q (record { verdict = Sat values; parts = parts })
@@ -91,7 +91,7 @@ right_sat budget q keys h parts values law fits asked = record {
   classes = h.are.classes;
   are = h.are.linked;
   verdict = record {
-    possible = h.possible;
+    none_false = h.none_false;
     holds = sat_by_keys q keys h values law fits (λ i d lt. (met i d lt).tree.holds) asked.long;
     given = given_of budget q values h.are.classes keys h.each met;
     asked = AllZip-long (KeyLeaves budget values) keys parts asked.leaves ∙ AllZip-long (IsKeyed q) h.are.classes keys h.each;
@@ -102,16 +102,16 @@ right_sat budget q keys h parts values law fits asked = record {
     met : All (IsMet budget values) keys
     met = all_met budget values keys parts asked.leaves asked.first
 
-unsat_by_atom : (q : PlainCondition) (j : ℕ) → IsNeverAt q j → IsSatisfiable q → ⊥
-unsat_by_atom q j never (values, holds) = of (slice_get q.atoms j) refl never
+unsat_by_atom : (q : PlainCondition) (j : ℕ) → IsFalseAt q j → IsSatisfiable q → ⊥
+unsat_by_atom q j false (values, holds) = of (slice_get q.atoms j) refl false
   where
-    of : (o : Option Atom) → slice_get q.atoms j ≡ o → IsSomeAnd o IsNever → ⊥
+    of : (o : Option Atom) → slice_get q.atoms j ≡ o → IsSomeAnd o IsFalse → ⊥
     of None e k = absurd k
     of (Some atom) e k = k values (subst (λ (a : Atom). AtomHolds a values) (get_or_from_slice_get q.atoms j atom atom e) (holds.atoms j atom (slice_get_within q.atoms j atom e)))
 
-pub right_unsat_atom : (budget : ℕ) (q : PlainCondition) (j : ℕ) (parts : List PlainPart) → IsImpossible q j → parts ≡ [] → IsRightAnswer budget q (record { verdict = UnsatAtom j; parts = parts })
+pub right_unsat_atom : (budget : ℕ) (q : PlainCondition) (j : ℕ) (parts : List PlainPart) → HasLeastFalse q j → parts ≡ [] → IsRightAnswer budget q (record { verdict = UnsatAtom j; parts = parts })
 right_unsat_atom budget q j parts h none = record {
   classes = h.are.classes;
   are = h.are.linked;
-  verdict = record { least = h.least; none_asked = none; unsatisfiable = unsat_by_atom q j h.least.never };
+  verdict = record { least = h.least; none_asked = none; unsatisfiable = unsat_by_atom q j h.least.is_false };
 }

@@ -10,8 +10,8 @@ use Rattle.canoniser.specs.declared.canonical.Canonical.TheVariants.{False, Key}
 use Rattle.canoniser.specs.Solutions.{IsCanonised}
 use Rattle.pipeline.specs.declared.slice_keys.SliceKey.{SliceKey}
 use Rattle.pipeline.specs.declared.slice_keys.Keyed.{Keyed}
-use Rattle.pipeline.specs.declared.slice_keys.Keyed.TheVariants.{Never, Keys}
-use Rattle.pipeline.specs.Answers.{NoneIsNever, IsLeastNever}
+use Rattle.pipeline.specs.declared.slice_keys.Keyed.TheVariants.{False as FalseAtom, Keys}
+use Rattle.pipeline.specs.Answers.{NoneIsFalse, IsLeastFalse}
 
 -- there is an atom of this number, and it holds
 abbrev pub HoldsAt : PlainCondition → List ℤ → ℕ → Type 0
@@ -26,18 +26,18 @@ pub record AreKeyed (q : PlainCondition) (keys : List SliceKey) : Type 0 where
   pub slices : List PlainSlice
   pub are : AreSlices q slices
   pub each : AllZip (IsKeyed q) are.classes keys
-  pub possible : NoneIsNever q
+  pub none_false : NoneIsFalse q
   pub variable_free : (values : List ℤ) → IsAssignment q.vars values → (j : ℕ) → NamesNothingAt q.atoms j → HoldsAt q values j
 
 -- the query has slices, and this is its least atom that no integers satisfy
-pub record IsImpossible (q : PlainCondition) (j : ℕ) : Type 0 where
+pub record HasLeastFalse (q : PlainCondition) (j : ℕ) : Type 0 where
   pub slices : List PlainSlice
   pub are : AreSlices q slices
-  pub least : IsLeastNever q j
+  pub least : IsLeastFalse q j
 
 -- what the slices of the query came to
 abbrev pub IsKeyedQuery : PlainCondition → Keyed → Type 0
-IsKeyedQuery q (Never j) = IsImpossible q j
+IsKeyedQuery q (FalseAtom j) = HasLeastFalse q j
 IsKeyedQuery q (Keys keys) = AreKeyed q keys.items
 
 -- ---- of what the slices come to
@@ -53,7 +53,7 @@ IsNotBelow j (False i) = j ≤ i
 IsNotBelow j (Key key back) = Unit {0}
 
 -- the least of the numbers that are false
-pub record IsLeastFalse (canonicals : List Canonical) (j : ℕ) : Type 0 where
+pub record IsLeastFalseAmong (canonicals : List Canonical) (j : ℕ) : Type 0 where
   pub one : Contains canonicals (False j)
   pub least : All (IsNotBelow j) canonicals
 

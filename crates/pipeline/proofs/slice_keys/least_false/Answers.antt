@@ -2,7 +2,7 @@ use Rattle.std.proofs.Common.{◌+◌, List, take, subst, sym, arith}
 use Rattle.std.proofs.lemmas.List.{take_all}
 use Rattle.canoniser.specs.declared.canonical.Canonical.{Canonical}
 use Rattle.pipeline.proofs.KeyedLemmas.{IsLeastSoFar, least_more}
-use Rattle.pipeline.proofs.slice_keys.least_never.Goals as goal
+use Rattle.pipeline.proofs.slice_keys.least_false.Goals as goal
 
 pub loop-canonical-init : goal.loop-canonical-init
 loop-canonical-init c = λ k d lt. absurd (omega arith)
