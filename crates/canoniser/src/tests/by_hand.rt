@@ -1,6 +1,6 @@
 //! Keys of slices reckoned by hand.
 use super::fixtures::{Row, condition, condition_of, sum, text_of};
-use crate::canonise;
+use crate::{canonise, is_false};
 use lin_model::{Atom, Cmp, Condition, Term};
 use slicer::slices;
 use std::alloc::Global;
@@ -188,10 +188,41 @@ fn two_variables(rt: HostRuntime) -> Result<(), Fail> {
 /// The slice of the atoms without variables.
 #[test]
 fn no_variables(rt: HostRuntime) -> Result<(), Fail> {
-    let always = condition(rt.alloc(), &[], &[(b"7#", GE, b"7#")])?;
-    assert!(rt; first(rt.alloc(), &always)?.as_str() == "");
-    let never = condition(rt.alloc(), &[], &[(b"7#", GE, b"7#"), (b"7#", LT, b"3#4#")])?;
-    assert!(rt; first(rt.alloc(), &never)?.as_str() == "false 1");
+    let all_true = condition(rt.alloc(), &[], &[(b"7#", GE, b"7#")])?;
+    assert!(rt; first(rt.alloc(), &all_true)?.as_str() == "");
+    let one_false = condition(rt.alloc(), &[], &[(b"7#", GE, b"7#"), (b"7#", LT, b"3#4#")])?;
+    assert!(rt; first(rt.alloc(), &one_false)?.as_str() == "false 1");
+    Ok(())
+}
+
+/// Whether no integers satisfy the condition's first atom.
+fn first_is_false(alloc: Global, c: &Condition) -> Result<bool, Fail> {
+    let atoms = c.atoms();
+    if atoms.is_empty() {
+        return Err(Fail::from("an atom"));
+    }
+    Ok(is_false(alloc, &atoms[0])?)
+}
+
+/// Atoms that no integers satisfy, and some that integers satisfy beyond the bounds of the variables.
+#[test]
+fn false_atoms(rt: HostRuntime) -> Result<(), Fail> {
+    let rows: &[(Row, bool)] = &[
+        ((b"2A", EQ, b"7#"), true),
+        ((b"2A", EQ, b"8#"), false),
+        ((b"4A-6B", EQ, b"9#"), true),
+        ((b"4A-6B", EQ, b"10#"), false),
+        ((b"2A", NE, b"7#"), false),
+        ((b"1A-1A", NE, b"0#"), true),
+        ((b"1A", LT, b"1A"), true),
+        ((b"1A", LE, b"1A"), false),
+        ((b"1A", GE, b"100#"), false),
+        ((b"7#", LT, b"3#4#"), true),
+    ];
+    for (row, want) in rows {
+        let c = condition(rt.alloc(), &[(0, 5), (0, 7)], &[*row])?;
+        assert!(rt; first_is_false(rt.alloc(), &c)? == *want);
+    }
     Ok(())
 }
 
