@@ -1,5 +1,6 @@
 -- The atoms of a slice, all of them: some integers satisfy each, or one is the first that none satisfy.
-use Rattle.std.proofs.Common.{◌≡◌, ℕ, ◌+◌, ◌<◌, ◌≤◌, zero, suc, List, length, take, get_or, ◌⊎◌, inl, inr, refl, subst, arith}
+use Rattle.std.proofs.Common.{◌≡◌, ℕ, ◌+◌, ◌<◌, ◌≤◌, zero, suc, List, length, take, get_or, ◌⊎◌, inl, inr, refl, subst}
+use Rattle.std.proofs.Common.{arith}
 use Rattle.std.specs.List.{All, slice_get}
 use Rattle.std.proofs.Math.Seq.{take-length}
 use Rattle.std.proofs.lemmas.List.Elements.{Contains-get_or}
@@ -28,7 +29,8 @@ record OneTurn (c : PlainCondition) (s : PlainSlice) (i : ℕ) : Type 0 where
   pub atom : Atom
   pub turn : IsTurn c s (order_of c s) i atom
 
-turn_of : (c : PlainCondition) (s : PlainSlice) → IsCondition c → IsSliceIn c s → (i : ℕ) → i < length s.atoms → OneTurn c s i
+turn_of : (c : PlainCondition) (s : PlainSlice) → IsCondition c → IsSliceIn c s → (i : ℕ) → i < length s.atoms
+    → OneTurn c s i
 turn_of c s fits one i lt =
     let j = get_or s.atoms i 0 in
     let declared : j < length c.atoms = (IsWithin-slice c s one).atoms j (Contains-get_or s.atoms i 0 lt) in

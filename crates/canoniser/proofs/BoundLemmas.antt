@@ -1,5 +1,6 @@
 -- The bounds of variables as canonical atoms.
-use Rattle.std.proofs.Common.{◌≡◌, ◌≢◌, ◌↔◌, ◌⊎◌, ℕ, ◌+◌, ◌^◌, ◌<◌, ◌≤◌, ℤ, pos, List, [], ◌∷◌, ◌++◌, Option, Some, refl, sym, subst, inl, inr, arith, lit<}
+use Rattle.std.proofs.Common.{◌≡◌, ◌≢◌, ◌↔◌, ◌⊎◌, ℕ, ◌+◌, ◌^◌, ◌<◌, ◌≤◌, ℤ, pos, List, [], ◌∷◌, ◌++◌, Option, Some}
+use Rattle.std.proofs.Common.{refl, sym, subst, inl, inr, arith, lit<}
 use Rattle.std.specs.Prelude.{unsigned_abs, slice_index}
 use Rattle.std.specs.List.{All, Contains, slice_get}
 use Rattle.std.specs.Option.{IsSomeAnd}
@@ -30,13 +31,22 @@ IsCanonicalForm-variable v below = record {
   has_terms = omega arith;
   few_terms = omega arith;
   variables = record { ascend = λ k d lt. absurd (omega arith); in_range = all_one (λ t. t.var < 64) v below };
-  coefficients = record { not_zero = all_one (λ t. t.coef ≢ pos 0) v (λ e. absurd (cc)); small = all_one (λ t. unsigned_abs t.coef < 2 ^ 40) v (lit< tt) };
+  coefficients = record {
+    not_zero = all_one (λ t. t.coef ≢ pos 0) v (λ e. absurd (cc));
+    small =
+        all_one (λ t. unsigned_abs t.coef < 2 ^ 40) v (lit< tt);
+  };
   begins_positive = λ d lt. omega (arith, ints);
   gcd_is_one = divisor-variable v;
 }
 
-pub IsCanonical-variable : (v : ℕ) (op : Op) (constant : ℤ) → v < 64 → unsigned_abs constant ≤ 2 ^ 31 → IsCanonical (record { form = variable v; op = op; constant = constant })
-IsCanonical-variable v op constant below small = record { form = IsCanonicalForm-variable v below; constant = omega arith }
+pub IsCanonical-variable : (v : ℕ) (op : Op) (constant : ℤ) → v < 64 → unsigned_abs constant ≤ 2 ^ 31
+    → IsCanonical (record { form = variable v; op = op; constant = constant })
+IsCanonical-variable v op constant below small = record {
+  form = IsCanonicalForm-variable v below;
+  constant =
+      omega arith;
+}
 
 -- a bound of one of the first n variables of the list
 abbrev pub IsBoundBelow : PlainCondition → List ℕ → ℕ → PlainKeyAtom → Type 0
@@ -50,14 +60,18 @@ pub AreBounds-none : (c : PlainCondition) (order : List ℕ) → AreBounds c ord
 AreBounds-none c order a = (λ has. absurd (omega (arith, has.1)), λ bound. absurd (omega (arith, bound.1)))
 
 -- what the bounds at a place are, where the variable there is this one
-bounds_of_var : (c : PlainCondition) (order : List ℕ) (n : ℕ) (var : PlainVar) (a : PlainKeyAtom) → slice_get c.vars (slice_index order n) ≡ Some var → BoundsAt c order a n ↔ ((a ≡ upper_atom n var) ⊎ (a ≡ lower_atom n var))
+bounds_of_var : (c : PlainCondition) (order : List ℕ) (n : ℕ) (var : PlainVar) (a : PlainKeyAtom)
+    → slice_get c.vars (slice_index order n) ≡ Some var
+    → BoundsAt c order a n ↔ ((a ≡ upper_atom n var) ⊎ (a ≡ lower_atom n var))
 bounds_of_var c order n var a is = (
   λ bound. subst (λ (o : Option PlainVar). IsSomeAnd o (λ w. (a ≡ upper_atom n w) ⊎ (a ≡ lower_atom n w))) is bound,
   λ one. subst (λ (o : Option PlainVar). IsSomeAnd o (λ w. (a ≡ upper_atom n w) ⊎ (a ≡ lower_atom n w))) (sym is) one,
 )
 
 -- the two bounds of the next variable
-pub AreBounds-more : (c : PlainCondition) (order : List ℕ) (n : ℕ) (var : PlainVar) (atoms : List PlainKeyAtom) → slice_get c.vars (slice_index order n) ≡ Some var → AreBounds c order n atoms → AreBounds c order (n + 1) ((atoms ++ upper_atom n var ∷ []) ++ lower_atom n var ∷ [])
+pub AreBounds-more : (c : PlainCondition) (order : List ℕ) (n : ℕ) (var : PlainVar) (atoms : List PlainKeyAtom)
+    → slice_get c.vars (slice_index order n) ≡ Some var → AreBounds c order n atoms
+    → AreBounds c order (n + 1) ((atoms ++ upper_atom n var ∷ []) ++ lower_atom n var ∷ [])
 AreBounds-more c order n var atoms is so_far a =
     let here = bounds_of_var c order n var a is in
     let upper = upper_atom n var in
@@ -71,13 +85,16 @@ AreBounds-more c order n var atoms is so_far a =
       ],
       λ bound. elim (eqb_tells bound.0 n) [
         | inl same ↦ elim (here.0 (subst (BoundsAt c order a) same.1 bound.2)) [
-          | inl is_upper ↦ Contains-append_left (atoms ++ upper ∷ []) (lower ∷ []) a (subst (Contains (atoms ++ upper ∷ [])) (sym is_upper) (Contains-push atoms upper))
-          | inr is_lower ↦ subst (Contains ((atoms ++ upper ∷ []) ++ lower ∷ [])) (sym is_lower) (Contains-push (atoms ++ upper ∷ []) lower)
+          | inl is_upper ↦ Contains-append_left (atoms ++ upper ∷ []) (lower ∷ []) a
+              (subst (Contains (atoms ++ upper ∷ [])) (sym is_upper) (Contains-push atoms upper))
+          | inr is_lower ↦ subst (Contains ((atoms ++ upper ∷ []) ++ lower ∷ [])) (sym is_lower)
+              (Contains-push (atoms ++ upper ∷ []) lower)
         ]
         | inr other ↦ (
             let ne = other.1 in
             let lt = bound.1 in
-            Contains-append_left (atoms ++ upper ∷ []) (lower ∷ []) a (Contains-append_left atoms (upper ∷ []) a ((so_far a).1 (bound.0, omega arith, bound.2)))
+            Contains-append_left (atoms ++ upper ∷ []) (lower ∷ []) a
+            (Contains-append_left atoms (upper ∷ []) a ((so_far a).1 (bound.0, omega arith, bound.2)))
             )
       ],
     )
@@ -86,6 +103,8 @@ AreBounds-more c order n var atoms is so_far a =
 abbrev pub FitBelow : PlainCondition → List ℕ → ℕ → Type 0
 FitBelow c order n = (v : ℕ) → v < n → IsSomeAnd (slice_get c.vars (slice_index order v)) VarFits
 
-pub FitBelow-more : (c : PlainCondition) (order : List ℕ) (n : ℕ) (var : PlainVar) → slice_get c.vars (slice_index order n) ≡ Some var → FitBelow c order n → VarFits var → FitBelow c order (n + 1)
+pub FitBelow-more : (c : PlainCondition) (order : List ℕ) (n : ℕ) (var : PlainVar)
+    → slice_get c.vars (slice_index order n) ≡ Some var → FitBelow c order n → VarFits var → FitBelow c order (n + 1)
 FitBelow-more c order n var is so_far fits v lt =
-    below_more (λ (k : ℕ). IsSomeAnd (slice_get c.vars (slice_index order k)) VarFits) n so_far (subst (λ (o : Option PlainVar). IsSomeAnd o VarFits) (sym is) fits) v lt
+    below_more (λ (k : ℕ). IsSomeAnd (slice_get c.vars (slice_index order k)) VarFits) n so_far
+    (subst (λ (o : Option PlainVar). IsSomeAnd o VarFits) (sym is) fits) v lt

@@ -1,5 +1,6 @@
 -- A canonical form that is an atom: it is canonical and narrow.
-use Rattle.std.proofs.Common.{◌≡◌, ◌≢◌, ℕ, ◌<◌, ◌≤◌, Bool, true, false, List, [], ◌∷◌, length, ℤ, pos, negsuc, neg_ℤ, unsigned_abs, refl, arith, ap, sym, subst, ◌∙◌}
+use Rattle.std.proofs.Common.{◌≡◌, ◌≢◌, ℕ, ◌<◌, ◌≤◌, Bool, true, false, List, [], ◌∷◌, length, ℤ, pos, negsuc, neg_ℤ}
+use Rattle.std.proofs.Common.{unsigned_abs, refl, arith, ap, sym, subst}
 use Rattle.std.specs.Prelude.{if◌then◌else◌}
 use Rattle.std.specs.List.{All}
 use Rattle.std.proofs.Math.Nat.{div-le_self}
@@ -18,7 +19,8 @@ use Rattle.lin_model.specs.Quotients.{floor_div, ceil_div}
 use Rattle.canoniser.specs.declared.atom_form.AtomForm.{AtomForm}
 use Rattle.canoniser.specs.declared.atom_form.AtomForm.TheVariants.{True, False, KeyAtom}
 use Rattle.canoniser.specs.Forms.{gathered, oriented, divides, divided, reduced, alone, primitive, canonical_form}
-use Rattle.canoniser.proofs.LimitsLemmas.{gcd-positive, narrow-oriented, IsGathered-gathered, IsOriented-oriented, IsCanonicalForm-divided}
+use Rattle.canoniser.proofs.LimitsLemmas.{gcd-positive, narrow-oriented, IsGathered-gathered, IsOriented-oriented}
+use Rattle.canoniser.proofs.LimitsLemmas.{IsCanonicalForm-divided}
 
 -- ---- sizes of quotients
 
@@ -48,12 +50,14 @@ same-quotient form op c n g a small e =
 
 equal_by : (test : Bool) (form : List FormTerm) (op : Op) (c : ℤ) (g : ℕ) (a : PlainKeyAtom) (otherwise : AtomForm)
     → otherwise ≢ KeyAtom a
-    → (if test then KeyAtom (record { form = divided g form; op = op; constant = floor_div c g }) else otherwise) ≡ KeyAtom a
+    → (if test then KeyAtom (record { form = divided g form; op = op; constant = floor_div c g }) else otherwise)
+    ≡ KeyAtom a
     → IsQuotient form op c g a
 equal_by true form op c g a otherwise other e = same-quotient form op c (floor_div c g) g a (floor_div-small c g) e
 equal_by false form op c g a otherwise other e = absurd (other e)
 
-IsQuotient-reduced : (form : List FormTerm) (op : Op) (c : ℤ) (g : ℕ) (a : PlainKeyAtom) → reduced g form op c ≡ KeyAtom a
+IsQuotient-reduced : (form : List FormTerm) (op : Op) (c : ℤ) (g : ℕ) (a : PlainKeyAtom)
+    → reduced g form op c ≡ KeyAtom a
     → IsQuotient form op c g a
 IsQuotient-reduced form Le c g a e = same-quotient form Le c (floor_div c g) g a (floor_div-small c g) e
 IsQuotient-reduced form Ge c g a e = same-quotient form Ge c (ceil_div c g) g a (ceil_div-small c g) e
@@ -78,7 +82,8 @@ IsDivided-primitive (t ∷ ts) op c a e = record {
 }
 
 pub IsDivided-canonical : (order : List ℕ) (atom : Atom) (a : PlainKeyAtom) → canonical_form order atom ≡ KeyAtom a
-    → IsDivided (oriented (gathered order atom)).form (oriented (gathered order atom)).op (oriented (gathered order atom)).constant a
+    → IsDivided (oriented (gathered order atom)).form (oriented (gathered order atom)).op
+    (oriented (gathered order atom)).constant a
 unfolding canonical_form
 IsDivided-canonical order atom a is =
     let o = oriented (gathered order atom) in
@@ -109,7 +114,8 @@ key_atom-canonical order atom a few fits is =
     let g = divisor o.form in
     let gcd = IsGcdOf-divisor o.form in
     let positive = gcd-positive o.form g made.some limits.gathered.coefficients.not_zero gcd in record {
-      form = subst IsCanonicalForm (sym made.quotient.form_is) (IsCanonicalForm-divided o g made.some limits gcd positive);
+      form =
+          subst IsCanonicalForm (sym made.quotient.form_is) (IsCanonicalForm-divided o g made.some limits gcd positive);
       constant = omega (arith, made.quotient.size, limits.gathered.constant);
     }
 

@@ -1,9 +1,8 @@
 -- What the key of a slice promises.
 use Rattle.std.proofs.Common.{◌≡◌, ◌≢◌, ◌↔◌, ℕ, ◌≤◌, ℤ, List, length, get_or, refl, sym, subst, inl, inr}
-use Rattle.std.specs.List.{All, Any, Contains, slice_get}
+use Rattle.std.specs.List.{All, Any, slice_get}
 use Rattle.std.proofs.lemmas.List.Elements.{All-contains, Contains-get_or}
 use Rattle.lin_model.specs.Conditions.{PlainCondition}
-use Rattle.lin_model.specs.declared.atom.Atom.{Atom}
 use Rattle.lin_model.specs.Truth.{AtomHolds, IsAssignment}
 use Rattle.lin_model.specs.Form.{form_width}
 use Rattle.lin_model.specs.KeyAtom.{PlainKeyAtom, KeyAtomHolds}
@@ -35,11 +34,17 @@ none_false c s none k d lt is =
     let has = Contains-get_or (atoms_of c s) k d lt in
     let number = Given-filter_map (λ j. slice_get c.atoms j) s.atoms atom has in
     let false = false-is_false (order_of c s) atom (order_of-distinct c s) (order_of-names c s atom has) is in
-    none number.element number.among (IsSomeAnd-found (slice_get c.atoms number.element) IsFalse atom number.gives false)
+    none number.element number.among
+    (IsSomeAnd-found (slice_get c.atoms number.element) IsFalse atom number.gives false)
 
 -- the strongest of the same atoms are the same
-pub IsStrongest-same : (One Other : PlainKeyAtom → Type 0) → ((a : PlainKeyAtom) → One a → Other a) → ((a : PlainKeyAtom) → Other a → One a) → (a : PlainKeyAtom) → IsStrongest One a → IsStrongest Other a
-IsStrongest-same One Other to from a is = record { one = to a is.one; alone = λ b other implied. is.alone b (from b other) implied }
+pub IsStrongest-same : (One Other : PlainKeyAtom → Type 0) → ((a : PlainKeyAtom) → One a → Other a)
+    → ((a : PlainKeyAtom) → Other a → One a) → (a : PlainKeyAtom) → IsStrongest One a → IsStrongest Other a
+IsStrongest-same One Other to from a is = record {
+  one = to a is.one;
+  alone =
+      λ b other implied. is.alone b (from b other) implied;
+}
 
 -- the canonical atoms of a slice
 abbrev canonical_atoms : PlainCondition → PlainSlice → List PlainKeyAtom
@@ -82,7 +87,8 @@ holds_at : (c : PlainCondition) (s : PlainSlice) (a : PlainKeyAtom) (values : Li
     (any : Any (λ atom. canonical_form (order_of c s) atom ≡ KeyAtom a) (atoms_of c s))
     → AtomHolds any.1 values ↔ KeyAtomHolds a (point_of (order_of c s) values)
 holds_at c s a values any =
-    key_atom-holds (order_of c s) any.1 a (order_of-distinct c s) (order_of-names c s any.1 (any.0, any.2, any.3)) any.4 values
+    key_atom-holds (order_of c s) any.1 a (order_of-distinct c s)
+    (order_of-names c s any.1 (any.0, any.2, any.3)) any.4 values
 
 -- where the slice's atoms hold, the key holds
 key_holds : (c : PlainCondition) (s : PlainSlice) (key : List PlainKeyAtom) (values : List ℤ) → IsKeyOfAtoms c s key
@@ -100,9 +106,11 @@ key_holds c s key values is assignment holds k d lt =
     ]
 
 -- where the key holds, the slice's atoms hold
-slice_holds : (c : PlainCondition) (s : PlainSlice) (key : List PlainKeyAtom) (values : List ℤ) → NoneIsFalseAmong c s.atoms
+slice_holds : (c : PlainCondition) (s : PlainSlice) (key : List PlainKeyAtom) (values : List ℤ)
+    → NoneIsFalseAmong c s.atoms
     → IsKeyOfAtoms c s key → KeyHolds key (point_of (order_of c s) values) → SliceHolds c s values
-slice_holds c s key values none is holds k d lt = by_form (canonical_form (order_of c s) (get_or (atoms_of c s) k d)) refl
+slice_holds c s key values none is holds k d lt =
+    by_form (canonical_form (order_of c s) (get_or (atoms_of c s) k d)) refl
   where
     by_form : (form : AtomForm) → canonical_form (order_of c s) (get_or (atoms_of c s) k d) ≡ form
         → AtomHolds (get_or (atoms_of c s) k d) values
@@ -155,6 +163,7 @@ pub IsCanonised-made : TableIsRight → (c : PlainCondition) (s : PlainSlice) (o
     → IsKeyWithBounds c order canonical key → IsCanonised c s order key
 IsCanonised-made right c s order canonical key named numbered forms is =
     let of_order = subst (λ (o : List ℕ). IsKeyWithBounds c o canonical key) numbered is in
-    let of_atoms = subst (λ (atoms : List PlainKeyAtom). IsKeyWithBounds c (order_of c s) atoms key) forms.are of_order in
+    let of_atoms =
+    subst (λ (atoms : List PlainKeyAtom). IsKeyWithBounds c (order_of c s) atoms key) forms.are of_order in
     let canonised = IsCanonised-of right c s key named forms.none_false of_atoms in
     subst (λ (o : List ℕ). IsCanonised c s o key) (sym numbered) canonised

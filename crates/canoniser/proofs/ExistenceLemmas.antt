@@ -26,7 +26,8 @@ use Rattle.canoniser.proofs.SomeBoundsLemmas.{bounds_below, vars_fit, bound_fits
 use Rattle.canoniser.proofs.TurnLemmas.{IsOrder-slice}
 
 -- each atom of the key is canonical
-key_fits : (c : PlainCondition) (order : List ℕ) (canonical key : List PlainKeyAtom) → length order ≤ 64 → All IsCanonical canonical → IsKeyWithBounds c order canonical key → All IsCanonical key
+key_fits : (c : PlainCondition) (order : List ℕ) (canonical key : List PlainKeyAtom) → length order ≤ 64
+    → All IsCanonical canonical → IsKeyWithBounds c order canonical key → All IsCanonical key
 key_fits c order canonical key few fit is k d lt =
     let a = get_or key k d in
     elim ((is.just a).0 (Contains-get_or key k d lt)).one [
@@ -34,7 +35,8 @@ key_fits c order canonical key few fit is k d lt =
       | inr bound ↦ bound_fits c order a few is.vars_fit bound
     ]
 
-canonical_of : IsAtomOrder → TableIsRight → (c : PlainCondition) (s : PlainSlice) → IsCondition c → HasNamed c s → IsSliceIn c s
+canonical_of : IsAtomOrder → TableIsRight → (c : PlainCondition) (s : PlainSlice) → IsCondition c → HasNamed c s
+    → IsSliceIn c s
     → NoneIsFalseAmong c s.atoms → HasCanonical c s
 canonical_of atom_order right c s fits named one none =
     let order = order_of c s in
@@ -45,7 +47,8 @@ canonical_of atom_order right c s fits named one none =
     let given = canonical ++ bounds.atoms in
     let strongest = strongest_exist atom_order right given in
     let fit = vars_fit c order fits ordered.declared in
-    let is = IsKeyWithBounds-joined c order canonical bounds.atoms given strongest.atoms refl bounds.just fit strongest.ascends strongest.just strongest.covers in
+    let is = IsKeyWithBounds-joined c order canonical bounds.atoms given strongest.atoms refl bounds.just fit
+    strongest.ascends strongest.just strongest.covers in
     let canonised = IsCanonised-made right c s order canonical strongest.atoms named refl are is in
     record {
       canonical = Key strongest.atoms order;
@@ -53,9 +56,18 @@ canonical_of atom_order right c s fits named one none =
         key = record {
           fits = record {
             ascends = strongest.ascends;
-            few = omega (arith, strongest.few, length-append canonical bounds.atoms, bounds.two_each, few_key_atoms c s order, few_atoms c s fits.fits one, ordered.few);
+            few = omega (
+              arith,
+              strongest.few,
+              length-append canonical bounds.atoms,
+              bounds.two_each,
+              few_key_atoms c s order,
+              few_atoms c s fits.fits one,
+              ordered.few,
+            );
           };
-          canonical = key_fits c order canonical strongest.atoms ordered.few (key_atoms-canonical c s fits ordered.few) is;
+          canonical =
+              key_fits c order canonical strongest.atoms ordered.few (key_atoms-canonical c s fits ordered.few) is;
         };
         width = omega (arith, canonised.width, ordered.few);
         distinct = ordered.distinct;

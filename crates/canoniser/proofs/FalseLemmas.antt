@@ -10,6 +10,7 @@ use Rattle.lin_model.specs.declared.form.FormTerm.{FormTerm}
 use Rattle.lin_model.specs.declared.op.Op.{Op}
 use Rattle.lin_model.specs.declared.op.Op.TheVariants.{Le, Ge, Eq, Ne}
 use Rattle.slicer.specs.Names.{atom_vars, Names}
+use Rattle.lin_model.specs.Test.{Passes}
 use Rattle.canoniser.specs.declared.atom_form.AtomForm.{AtomForm}
 use Rattle.canoniser.specs.declared.atom_form.AtomForm.TheVariants.{True, False, KeyAtom}
 use Rattle.canoniser.specs.Forms.{gathered, oriented, divided, canonical_form}
@@ -17,7 +18,7 @@ use Rattle.canoniser.specs.Numbering.{first_ones}
 use Rattle.canoniser.specs.Solutions.{point_of, IsFalse}
 use Rattle.canoniser.proofs.LimitsLemmas.{gcd-positive, nonzero-oriented}
 use Rattle.canoniser.proofs.CanonicalLemmas.{IsDivided-canonical}
-use Rattle.canoniser.proofs.MeaningLemmas.{Passes, HoldsAt, oriented-holds, canonical_form-means, divided-value, times_same}
+use Rattle.canoniser.proofs.MeaningLemmas.{HoldsAt, oriented-holds, canonical_form-means, divided-value, times_same}
 use Rattle.canoniser.proofs.MeaningLemmas.{true-holds, false-is_false}
 use Rattle.canoniser.proofs.NumberingLemmas.{first_ones-distinct, order_in-names}
 use Rattle.canoniser.proofs.ReachLemmas.{reaches}

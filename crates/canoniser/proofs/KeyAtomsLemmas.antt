@@ -1,5 +1,6 @@
 -- The canonical atoms of a slice, one atom after another.
-use Rattle.std.proofs.Common.{◌≡◌, ◌↔◌, ℕ, ◌+◌, ◌<◌, ◌≤◌, List, [], ◌∷◌, ◌++◌, length, take, get_or, Option, Some, None, sym, ap, ◌∙◌, subst, inl, inr, arith}
+use Rattle.std.proofs.Common.{◌≡◌, ◌↔◌, ℕ, ◌+◌, ◌<◌, ◌≤◌, List, [], ◌∷◌, ◌++◌, length, take, get_or, Option, Some}
+use Rattle.std.proofs.Common.{sym, ap, ◌∙◌, subst, inl, inr, arith}
 use Rattle.std.specs.List.{Any, AllPairs, Contains, slice_get, filter_map, cons_option}
 use Rattle.std.specs.Option.{IsSomeAnd}
 use Rattle.std.proofs.lemmas.List.{take_more, length-take, get_or-take, get_or_default}
@@ -23,7 +24,9 @@ use Rattle.canoniser.specs.Solutions.{IsFalse, IsFalseAt, NoneIsFalseAmong, IsFi
 abbrev pub atoms_at : PlainCondition → List ℕ → List Atom
 atoms_at c numbers = filter_map (λ j. slice_get c.atoms j) numbers
 
-pub atoms_at-more : (c : PlainCondition) (numbers : List ℕ) (i : ℕ) (atom : Atom) → i < length numbers → slice_get c.atoms (get_or numbers i 0) ≡ Some atom → atoms_at c (take (i + 1) numbers) ≡ atoms_at c (take i numbers) ++ atom ∷ []
+pub atoms_at-more : (c : PlainCondition) (numbers : List ℕ) (i : ℕ) (atom : Atom) → i < length numbers
+    → slice_get c.atoms (get_or numbers i 0) ≡ Some atom
+    → atoms_at c (take (i + 1) numbers) ≡ atoms_at c (take i numbers) ++ atom ∷ []
 atoms_at-more c numbers i atom lt is =
     ap (atoms_at c) (take_more numbers i 0 lt)
     ∙ filter_map-append (λ (j : ℕ). slice_get c.atoms j) (take i numbers) (get_or numbers i 0 ∷ [])
@@ -75,13 +78,15 @@ pub NoneIsFalseAmong-more : (c : PlainCondition) (numbers : List ℕ) (i : ℕ) 
     → NoneIsFalseAmong c (take (i + 1) numbers)
 NoneIsFalseAmong-more c numbers i atom lt is so_far satisfied j has at =
     let number = get_or numbers i 0 in
-    elim (Contains-push_cases (take i numbers) number j (subst (λ (xs : List ℕ). Contains xs j) (take_more numbers i 0 lt) has)) [
+    elim (Contains-push_cases (take i numbers) number j
+    (subst (λ (xs : List ℕ). Contains xs j) (take_more numbers i 0 lt) has)) [
       | inl earlier ↦ so_far j earlier at
       | inr last ↦ satisfied (IsFalseAt-found c number atom is (subst (IsFalseAt c) (sym last) at))
     ]
 
 -- of ascending numbers, one that is less than that at a place stands before it
-Contains-before : (xs : List ℕ) (i x : ℕ) → AllPairs ◌<◌ xs → i < length xs → Contains xs x → x < get_or xs i 0 → Contains (take i xs) x
+Contains-before : (xs : List ℕ) (i x : ℕ) → AllPairs ◌<◌ xs → i < length xs → Contains xs x → x < get_or xs i 0
+    → Contains (take i xs) x
 Contains-before xs i x ascending lt has below =
     let k = has.0 in
     let at_k : get_or xs k 0 ≡ x = get_or_default xs k 0 x has.1 ∙ has.2 in
@@ -106,10 +111,12 @@ IsFirstFalse-here c s i atom ascending lt is so_far false =
     }
 
 -- what names only variables of a condition names only variables below 64
-pub AtomNamesBelow-64 : (c : PlainCondition) (j : ℕ) (atom : Atom) → Fits c.vars c.atoms → slice_get c.atoms j ≡ Some atom → AtomNamesBelow 64 atom
+pub AtomNamesBelow-64 : (c : PlainCondition) (j : ℕ) (atom : Atom) → Fits c.vars c.atoms
+    → slice_get c.atoms j ≡ Some atom → AtomNamesBelow 64 atom
 AtomNamesBelow-64 c j atom fits is =
     let within = slice_get_within c.atoms j atom is in
     let n = length c.vars in
     let few = fits.few_vars in
-    let here : AtomNamesBelow n atom = subst (AtomNamesBelow n) (get_or_from_slice_get c.atoms j atom atom is) (fits.in_range j atom within) in
+    let here : AtomNamesBelow n atom =
+    subst (AtomNamesBelow n) (get_or_from_slice_get c.atoms j atom atom is) (fits.in_range j atom within) in
     AtomNamesBelow-larger n 64 few atom here

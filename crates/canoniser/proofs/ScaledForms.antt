@@ -1,17 +1,18 @@
 -- An atom with both sides times a positive number has the same canonical form.
-use Rattle.std.proofs.Common.{◌≡◌, ◌≢◌, ℕ, suc, ◌*◌, ◌/◌, ◌%◌, zero, ◌<◌, ◌≤◌, ◌↔◌, Bool, true, List, [], ◌∷◌, get_or, map, ℤ, pos, ◌*ℤ◌, ◌≤ℤ◌, unsigned_abs, refl, arith, eq-eqb, ap, sym, subst, ◌∙◌}
+use Rattle.std.proofs.Common.{◌≡◌, ◌≢◌, ℕ, ◌*◌, ◌/◌, ◌%◌, ◌<◌, ◌↔◌, Bool, true, List, [], ◌∷◌, get_or}
+use Rattle.std.proofs.Common.{map, ℤ, pos, ◌*ℤ◌, ◌≤ℤ◌, unsigned_abs, refl, arith, eq-eqb, ap, sym, subst, ◌∙◌}
 use Rattle.std.specs.Prelude.{if◌then◌else◌}
-use Rattle.std.specs.Int.{◌∣◌, IsGcd}
+use Rattle.std.specs.Int.{◌∣◌}
 use Rattle.std.specs.List.{All}
-use Rattle.std.proofs.Math.Nat.{mod-lt, one-dvd, mul-pos, mul-div_cancel', mul-dvd-mul_left, dvd_of_mul-dvd-mul_left}
+use Rattle.std.proofs.Math.Nat.{one-dvd, mul-pos, mul-div_cancel', mul-dvd-mul_left, dvd_of_mul-dvd-mul_left}
 use Rattle.std.proofs.Math.IntN.{*ℤ-zero, pos-*ℤ-pos}
-use Rattle.std.proofs.lemmas.Nat.Gcd.{IsGcd-from_mod, IsGcd-from_zero, dvd_trans, dvd-zero, mod-eq-zero_of_dvd}
+use Rattle.std.proofs.lemmas.Nat.Gcd.{dvd_trans, mod-eq-zero_of_dvd}
 use Rattle.std.proofs.lemmas.List.{get_or-map, length-map}
 use Rattle.std.proofs.lemmas.Int.{ints, unsigned_abs-mul}
-use Rattle.std.proofs.lemmas.List.Elements.{All-nil, All-cons, All-head, All-tail, All-map}
-use Rattle.lin_model.specs.Facts.{IsGcdOf-divisor, divisor_from_IsGcdOf}
+use Rattle.std.proofs.lemmas.List.Elements.{All-map}
+use Rattle.lin_model.specs.Facts.{Decides-passes, IsGcdOf-divisor, divisor_from_IsGcdOf}
 use Rattle.lin_model.specs.Form.{divisor, DividesAll}
-use Rattle.lin_model.specs.Test.{passes}
+use Rattle.lin_model.specs.Test.{Passes, passes}
 use Rattle.lin_model.specs.KeyAtom.{PlainKeyAtom}
 use Rattle.lin_model.specs.declared.atom.Atom.{Atom}
 use Rattle.lin_model.specs.declared.atom.Cmp.TheVariants.{Le}
@@ -21,22 +22,28 @@ use Rattle.lin_model.specs.declared.op.Op.TheVariants.{Le as AtMost, Ge as AtLea
 use Rattle.lin_model.specs.Quotients.{floor_div, ceil_div}
 use Rattle.lin_model.specs.Integers.{times_assoc}
 use Rattle.canoniser.specs.declared.atom_form.AtomForm.TheVariants.{True, False, KeyAtom}
-use Rattle.canoniser.specs.Forms.{gathered, oriented, divides, divided, reduced, alone, primitive, primitive_of, canonical_form}
+use Rattle.canoniser.specs.Forms.{gathered, oriented, divides, divided, reduced, alone, primitive, primitive_of}
+use Rattle.canoniser.specs.Forms.{canonical_form}
 use Rattle.canoniser.specs.Factors.{times}
 use Rattle.canoniser.proofs.Arithmetic.{floor_div-above, ceil_div-below}
 use Rattle.canoniser.proofs.LimitsLemmas.{gcd-positive, nonzero-oriented}
-use Rattle.canoniser.proofs.MeaningLemmas.{Passes, passes-tells, times_same, divisor_from_test}
-use Rattle.canoniser.proofs.ScalingLemmas.{scaled, Matches, same_bool, times_le, loose-matches, IsTimes, IsTimes-oriented}
+use Rattle.canoniser.proofs.MeaningLemmas.{times_same, divisor_from_test}
+use Rattle.canoniser.proofs.ScalingLemmas.{scaled, Matches, same_bool, times_le, loose-matches, IsTimes}
+use Rattle.canoniser.proofs.ScalingLemmas.{IsTimes-oriented}
 
 -- ---- the greatest common divisor
 
 divides-scaled : (m g : ℕ) (form : List FormTerm) → DividesAll g form → DividesAll (m * g) (map (scaled m) form)
 divides-scaled m g form all =
-    All-map (λ t. m * g ∣ unsigned_abs t.coef) (scaled m) form (λ k d lt. subst (λ n. m * g ∣ n) (sym (unsigned_abs-mul (pos m) (get_or form k d).coef)) (mul-dvd-mul_left g m (all k d lt)))
+    All-map (λ t. m * g ∣ unsigned_abs t.coef) (scaled m) form
+    (λ k d lt. subst (λ n. m * g ∣ n) (sym (unsigned_abs-mul (pos m) (get_or form k d).coef))
+    (mul-dvd-mul_left g m (all k d lt)))
 
-divides-unscaled : (m g : ℕ) (form : List FormTerm) → 0 < m → DividesAll (m * g) (map (scaled m) form) → DividesAll g form
+divides-unscaled : (m g : ℕ) (form : List FormTerm) → 0 < m → DividesAll (m * g) (map (scaled m) form)
+    → DividesAll g form
 divides-unscaled m g form h all k d lt =
-    let read : get_or (map (scaled m) form) k (scaled m d) ≡ scaled m (get_or form k d) = get_or-map (scaled m) form k d (scaled m d) lt in
+    let read : get_or (map (scaled m) form) k (scaled m d) ≡ scaled m (get_or form k d) =
+    get_or-map (scaled m) form k d (scaled m d) lt in
     let size = unsigned_abs-mul (pos m) (get_or form k d).coef in
     let here = all k (scaled m d) (omega (arith, length-map form (scaled m))) in
     dvd_of_mul-dvd-mul_left g h (subst (λ n. m * g ∣ n) (ap (λ (t : FormTerm). unsigned_abs t.coef) read ∙ size) here)
@@ -85,8 +92,10 @@ floor_div-times m g c d hm hg both =
     let product = product_times m g w in
     let outer = floor_div-above w d (m * g) (mul-pos hm hg) in
     let inner = floor_div-above w c g hg in
-    let at = both (pos g *ℤ w) in
-    (λ le. inner.1 (at.0 (let low = outer.0 le in omega (arith, ints))), λ le. outer.1 (let low = at.1 (inner.0 le) in omega (arith, ints))))
+    let at = both (pos g *ℤ w) in (
+      λ le. inner.1 (at.0 (let low = outer.0 le in omega (arith, ints))),
+      λ le. outer.1 (let low = at.1 (inner.0 le) in omega (arith, ints)),
+    ))
 
 ceil_div-times : (m g : ℕ) (c d : ℤ) → 0 < m → 0 < g → Matches AtLeast m c d → ceil_div d (m * g) ≡ ceil_div c g
 ceil_div-times m g c d hm hg both =
@@ -94,10 +103,13 @@ ceil_div-times m g c d hm hg both =
     let product = product_times m g w in
     let outer = ceil_div-below w d (m * g) (mul-pos hm hg) in
     let inner = ceil_div-below w c g hg in
-    let at = both (pos g *ℤ w) in
-    (λ le. inner.1 (at.0 (let low = outer.0 le in omega (arith, ints))), λ le. outer.1 (let low = at.1 (inner.0 le) in omega (arith, ints))))
+    let at = both (pos g *ℤ w) in (
+      λ le. inner.1 (at.0 (let low = outer.0 le in omega (arith, ints))),
+      λ le. outer.1 (let low = at.1 (inner.0 le) in omega (arith, ints)),
+    ))
 
-divided-scaled : (m g : ℕ) (form : List FormTerm) → 0 < m → 0 < g → divided (m * g) (map (scaled m) form) ≡ divided g form
+divided-scaled : (m g : ℕ) (form : List FormTerm) → 0 < m → 0 < g
+    → divided (m * g) (map (scaled m) form) ≡ divided g form
 divided-scaled m g [] hm hg = refl
 divided-scaled m g (t ∷ ts) hm hg =
     let rest = divided-scaled m g ts hm hg in
@@ -111,10 +123,13 @@ divides-times : (m g : ℕ) (c d : ℤ) → 0 < m → d ≡ pos m *ℤ c → div
 divides-times m g c d h e =
     let size : unsigned_abs d ≡ m * unsigned_abs c = ap unsigned_abs e ∙ unsigned_abs-mul (pos m) c in
     same_bool (divides (m * g) d) (divides g c)
-    (λ yes. test_from_divisor g c (dvd_of_mul-dvd-mul_left g h (subst (λ n. m * g ∣ n) size (divisor_from_test (m * g) d yes))))
-    (λ yes. test_from_divisor (m * g) d (subst (λ n. m * g ∣ n) (sym size) (mul-dvd-mul_left g m (divisor_from_test g c yes))))
+    (λ yes. test_from_divisor g c
+    (dvd_of_mul-dvd-mul_left g h (subst (λ n. m * g ∣ n) size (divisor_from_test (m * g) d yes))))
+    (λ yes. test_from_divisor (m * g) d
+    (subst (λ n. m * g ∣ n) (sym size) (mul-dvd-mul_left g m (divisor_from_test g c yes))))
 
-reduced-times : (m g : ℕ) (form : List FormTerm) (op : Op) (c d : ℤ) → 0 < m → 0 < g → Matches op m c d → reduced (m * g) (map (scaled m) form) op d ≡ reduced g form op c
+reduced-times : (m g : ℕ) (form : List FormTerm) (op : Op) (c d : ℤ) → 0 < m → 0 < g → Matches op m c d
+    → reduced (m * g) (map (scaled m) form) op d ≡ reduced g form op c
 reduced-times m g form AtMost c d hm hg both =
     let parts = divided-scaled m g form hm hg in
     let quotient = floor_div-times m g c d hm hg both in
@@ -157,9 +172,11 @@ passes-zero Differs m c d h e =
 alone-times : (op : Op) (m : ℕ) (c d : ℤ) → 0 < m → Matches op m c d → alone op d ≡ alone op c
 alone-times op m c d h both =
     let same = passes-zero op m c d h both in
-    let of_d = passes-tells op d (pos 0) in
-    let of_c = passes-tells op c (pos 0) in
-    ap (λ (test : Bool). if test then True else False) (same_bool (passes op d (pos 0)) (passes op c (pos 0)) (λ yes. of_c.1 (same.0 (of_d.0 yes))) (λ yes. of_d.1 (same.1 (of_c.0 yes))))
+    let of_d = Decides-passes op d (pos 0) in
+    let of_c = Decides-passes op c (pos 0) in
+    ap (λ (test : Bool). if test then True else False)
+    (same_bool (passes op d (pos 0)) (passes op c (pos 0)) (λ yes. of_c.1 (same.0 (of_d.0 yes)))
+    (λ yes. of_d.1 (same.1 (of_c.0 yes))))
 
 -- ---- forms
 

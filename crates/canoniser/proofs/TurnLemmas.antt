@@ -1,6 +1,7 @@
 -- One atom of a slice, over the slice's variables.
-use Rattle.std.proofs.Common.{◌≡◌, ◌≢◌, ◌↔◌, ℕ, ◌+◌, ◌<◌, ◌≤◌, List, [], ◌∷◌, ◌++◌, length, take, get_or, Some, refl, sym, ap, ◌∙◌, subst, arith, append-nil}
-use Rattle.std.specs.List.{All, AllPairs, Contains, slice_get, cons_option}
+use Rattle.std.proofs.Common.{◌≡◌, ◌≢◌, ◌↔◌, ℕ, ◌+◌, ◌<◌, ◌≤◌, List, [], ◌∷◌, ◌++◌, length, take, get_or, Some, refl}
+use Rattle.std.proofs.Common.{sym, ap, ◌∙◌, subst, arith, append-nil}
+use Rattle.std.specs.List.{All, AllPairs, slice_get, cons_option}
 use Rattle.std.proofs.lemmas.List.Elements.{Contains-get_or}
 use Rattle.std.proofs.Math.Seq.{take-length}
 use Rattle.lin_model.specs.Conditions.{PlainCondition, AtomNamesBelow, Fits}
@@ -12,12 +13,13 @@ use Rattle.slicer.specs.Slices.{PlainSlice}
 use Rattle.canoniser.specs.declared.atom_form.AtomForm.{AtomForm}
 use Rattle.canoniser.specs.declared.atom_form.AtomForm.TheVariants.{True, False, KeyAtom}
 use Rattle.canoniser.specs.Forms.{canonical_form, key_atom_in, key_atoms}
-use Rattle.canoniser.specs.Numbering.{atoms_of, order_of}
+use Rattle.canoniser.specs.Numbering.{order_of}
 use Rattle.canoniser.specs.Keys.{IsSliceIn}
 use Rattle.canoniser.specs.Solutions.{IsFalse, NoneIsFalseAmong, IsFirstFalse}
 use Rattle.canoniser.specs.SliceForms.{AreKeyAtoms}
 use Rattle.canoniser.proofs.SliceLemmas.{NamesOnly, IsWithin-slice}
-use Rattle.canoniser.proofs.KeyAtomsLemmas.{atoms_at, atoms_at-more, key_atoms-push, NoneIsFalseAmong-more, IsFirstFalse-here}
+use Rattle.canoniser.proofs.KeyAtomsLemmas.{atoms_at, atoms_at-more, key_atoms-push, NoneIsFalseAmong-more}
+use Rattle.canoniser.proofs.KeyAtomsLemmas.{IsFirstFalse-here}
 use Rattle.canoniser.proofs.KeyAtomsLemmas.{AtomNamesBelow-64}
 use Rattle.canoniser.proofs.FalseLemmas.{is_false-tells}
 use Rattle.canoniser.proofs.NumberingLemmas.{order_of-distinct, order_of-below, order_of-few, order_of-names}
@@ -41,10 +43,13 @@ pub record IsOrder (c : PlainCondition) (order : List ℕ) : Type 0 where
 distinct-turn : (c : PlainCondition) (s : PlainSlice) (order : List ℕ) → order ≡ order_of c s → AllPairs ◌≢◌ order
 distinct-turn c s order numbered = subst (AllPairs ◌≢◌) (sym numbered) (order_of-distinct c s)
 
-pub IsOrder-slice : (c : PlainCondition) (s : PlainSlice) (order : List ℕ) → Fits c.vars c.atoms → HasNamed c s → IsSliceIn c s → order ≡ order_of c s → IsOrder c order
+pub IsOrder-slice : (c : PlainCondition) (s : PlainSlice) (order : List ℕ) → Fits c.vars c.atoms → HasNamed c s
+    → IsSliceIn c s → order ≡ order_of c s → IsOrder c order
 IsOrder-slice c s order fits named one numbered =
-    let of_slice : All (λ v. v < length c.vars) (order_of c s) = λ k d lt. order_of-below c s named one (get_or (order_of c s) k d) (Contains-get_or (order_of c s) k d lt) in
-    let declared : All (λ v. v < length c.vars) order = subst (λ (o : List ℕ). All (λ v. v < length c.vars) o) (sym numbered) of_slice in
+    let of_slice : All (λ v. v < length c.vars) (order_of c s) =
+    λ k d lt. order_of-below c s named one (get_or (order_of c s) k d) (Contains-get_or (order_of c s) k d lt) in
+    let declared : All (λ v. v < length c.vars) order =
+    subst (λ (o : List ℕ). All (λ v. v < length c.vars) o) (sym numbered) of_slice in
     let few_vars = fits.few_vars in
     record {
       distinct = distinct-turn c s order numbered;
@@ -54,14 +59,16 @@ IsOrder-slice c s order fits named one numbered =
     }
 
 -- the atom names only variables that have a number
-NamesOnly-turn : (c : PlainCondition) (s : PlainSlice) (order : List ℕ) (i : ℕ) (atom : Atom) → IsTurn c s order i atom → NamesOnly order atom
+NamesOnly-turn : (c : PlainCondition) (s : PlainSlice) (order : List ℕ) (i : ℕ) (atom : Atom) → IsTurn c s order i atom
+    → NamesOnly order atom
 NamesOnly-turn c s order i atom turn =
     subst (λ (o : List ℕ). NamesOnly o atom) (sym turn.numbered)
     (order_of-names c s atom
     (Contains-filter_map (λ (j : ℕ). slice_get c.atoms j) s.atoms (get_or s.atoms i 0) atom
     (Contains-get_or s.atoms i 0 turn.place) turn.read))
 
-pub AtomNamesBelow-turn : (c : PlainCondition) (s : PlainSlice) (order : List ℕ) (i : ℕ) (atom : Atom) → IsTurn c s order i atom → AtomNamesBelow 64 atom
+pub AtomNamesBelow-turn : (c : PlainCondition) (s : PlainSlice) (order : List ℕ) (i : ℕ) (atom : Atom)
+    → IsTurn c s order i atom → AtomNamesBelow 64 atom
 AtomNamesBelow-turn c s order i atom turn = AtomNamesBelow-64 c (get_or s.atoms i 0) atom turn.fits turn.read
 
 -- no integers satisfy an atom exactly where its canonical form is False
@@ -85,7 +92,8 @@ NoneIsFalseAmong-turn c s order i atom turn before other =
     (λ false. other ((is_false-turn c s order i atom turn).0 false))
 
 -- some integers satisfy each atom before a place, and these are their canonical atoms
-pub record AreKeyAtomsBefore (c : PlainCondition) (s : PlainSlice) (order : List ℕ) (i : ℕ) (canonical : List PlainKeyAtom) : Type 0 where
+pub record AreKeyAtomsBefore (c : PlainCondition) (s : PlainSlice) (order : List ℕ) (i : ℕ)
+    (canonical : List PlainKeyAtom) : Type 0 where
   pub none_false : NoneIsFalseAmong c (take i s.atoms)
   pub are : canonical ≡ key_atoms order (atoms_at c (take i s.atoms))
 

@@ -22,9 +22,11 @@ use Rattle.canoniser.proofs.FalseLemmas.{is_false-tells}
 use Rattle.canoniser.proofs.NumberingLemmas.{order_of-distinct, order_of-names}
 use Rattle.canoniser.proofs.SortedLemmas.{same_from_Ascends}
 
-one_key : IsAtomOrder → (c : PlainCondition) (s : PlainSlice) (one other : List PlainKeyAtom) → IsKeyOf c s one → IsKeyOf c s other → one ≡ other
+one_key : IsAtomOrder → (c : PlainCondition) (s : PlainSlice) (one other : List PlainKeyAtom) → IsKeyOf c s one
+    → IsKeyOf c s other → one ≡ other
 one_key atom_order c s one other a b =
-    same_from_Ascends atom_order one other a.ascends b.ascends (λ x. (λ has. (b.just x).1 ((a.just x).0 has), λ has. (a.just x).1 ((b.just x).0 has)))
+    same_from_Ascends atom_order one other a.ascends b.ascends
+    (λ x. (λ has. (b.just x).1 ((a.just x).0 has), λ has. (a.just x).1 ((b.just x).0 has)))
 
 one_first : (c : PlainCondition) (s : PlainSlice) (i j : ℕ) → IsFirstFalse c s i → IsFirstFalse c s j → i ≡ j
 one_first c s i j a b = elim (eqb_tells i j) [
@@ -38,7 +40,8 @@ one_first c s i j a b = elim (eqb_tells i j) [
       )
 ]
 
-not_both : (c : PlainCondition) (s : PlainSlice) (key : List PlainKeyAtom) (j : ℕ) → IsKeyOf c s key → ¬ IsFirstFalse c s j
+not_both : (c : PlainCondition) (s : PlainSlice) (key : List PlainKeyAtom) (j : ℕ) → IsKeyOf c s key
+    → ¬ IsFirstFalse c s j
 not_both c s key j is first =
     let order = order_of c s in
     let found = Found-from (slice_get c.atoms j) IsFalse first.is_false in
@@ -47,7 +50,8 @@ not_both c s key j is first =
     let tells = is_false-tells order atom (order_of-distinct c s) (order_of-names c s atom has) in
     All-contains (λ x. canonical_form order x ≢ False) (atoms_of c s) atom is.none_false has (tells.0 found.holds)
 
-one_canonical : IsAtomOrder → (c : PlainCondition) (s : PlainSlice) (one other : Canonical) → Canonises c s one → Canonises c s other → one ≡ other
+one_canonical : IsAtomOrder → (c : PlainCondition) (s : PlainSlice) (one other : Canonical) → Canonises c s one
+    → Canonises c s other → one ≡ other
 one_canonical atom_order c s (FalseAtom i) (FalseAtom j) a b = λ k. FalseAtom (one_first c s i j a b k)
 one_canonical atom_order c s (FalseAtom i) (Key key order) a b = absurd (not_both c s key i b.is_key a)
 one_canonical atom_order c s (Key key order) (FalseAtom j) a b = absurd (not_both c s key j a.is_key b)
@@ -57,4 +61,9 @@ one_canonical atom_order c s (Key one order) (Key other more) a b =
     λ k. Key (key k) (same k)
 
 pub keys_are_unique : IsAtomOrder → KeysAreUnique
-keys_are_unique atom_order c s = record { one = one_canonical atom_order c s; one_key = one_key atom_order c s; not_both = not_both c s }
+keys_are_unique atom_order c s = record {
+  one = one_canonical atom_order c s;
+  one_key =
+      one_key atom_order c s;
+  not_both = not_both c s;
+}

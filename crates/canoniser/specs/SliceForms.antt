@@ -1,5 +1,5 @@
 -- What the atoms of a slice come to, all together.
-use Rattle.std.specs.Prelude.{◌≡◌, ℕ, List, Contains}
+use Rattle.std.specs.Prelude.{◌≡◌, List}
 use Rattle.lin_model.specs.Conditions.{PlainCondition}
 use Rattle.lin_model.specs.KeyAtom.{PlainKeyAtom}
 use Rattle.slicer.specs.Slices.{PlainSlice}

@@ -40,7 +40,8 @@ SliceHolds c s values = All (λ atom. AtomHolds atom values) (atoms_of c s)
 
 -- at an assignment the atoms of the slice hold where the key holds at its point, and nowhere else
 abbrev pub HaveSameSolutions : PlainCondition → PlainSlice → List ℕ → List PlainKeyAtom → Type 0
-HaveSameSolutions c s order key = (values : List ℤ) → IsAssignment c.vars values → SliceHolds c s values ↔ KeyHolds key (point_of order values)
+HaveSameSolutions c s order key =
+    (values : List ℤ) → IsAssignment c.vars values → SliceHolds c s values ↔ KeyHolds key (point_of order values)
 
 -- a point that satisfies the key lies within the bounds of the slice's variables
 abbrev pub KeepsBounds : PlainCondition → List ℕ → List PlainKeyAtom → Type 0

@@ -1,5 +1,6 @@
 -- The definitions on small worked values, as the checker computes them.
-use Rattle.std.proofs.Common.{◌≡◌, ℕ, zero, suc, ◌<◌, ℤ, pos, negsuc, true, false, Some, None, List, [], ◌∷◌, codes, get_or, inr, refl, arith}
+use Rattle.std.proofs.Common.{◌≡◌, ℕ, zero, suc, ◌<◌, ℤ, pos, negsuc, true, false, Some, None, List, [], ◌∷◌, codes}
+use Rattle.std.proofs.Common.{get_or, inr, refl, arith}
 use Rattle.std.specs.declared.cmp.Ordering.TheVariants.{Less, Equal}
 use Rattle.std.specs.List.{Any}
 use Rattle.std.proofs.lemmas.Int.{ints}
@@ -63,7 +64,8 @@ up_to_three name = record { name = name; lo = pos 0; hi = pos 3 }
 check_assignment : IsAssignment (up_to_three (codes "x") ∷ []) (pos 3 ∷ [])
 check_assignment = record { one_each = refl; within = within }
   where
-    within : (k : ℕ) (var : PlainVar) → k < 1 → InBounds (get_or (up_to_three (codes "x") ∷ []) k var) (get_or (pos 3 ∷ []) k (pos 0))
+    within : (k : ℕ) (var : PlainVar) → k < 1 → InBounds (get_or (up_to_three (codes "x") ∷ []) k var)
+        (get_or (pos 3 ∷ []) k (pos 0))
     within zero var lt = record { low = omega (arith, ints); high = omega (arith, ints) }
     within (suc k) var lt = absurd (omega arith)
 
@@ -78,7 +80,8 @@ check_same_name h = h.distinct 0 1 (up_to_three (codes "x")) (omega arith) (omeg
 
 -- `v0 < v1` over one variable names one that isn't there
 check_not_declared : ¬ Fits (up_to_three (codes "x") ∷ []) (less ∷ [])
-check_not_declared h = let there = (h.in_range 0 less (omega arith)).right 0 (times (pos 1) 1) (omega arith) in absurd (omega (arith, there))
+check_not_declared h = let there =
+    (h.in_range 0 less (omega arith)).right 0 (times (pos 1) 1) (omega arith) in absurd (omega (arith, there))
 
 -- ---- canonical atoms and keys
 
@@ -99,7 +102,8 @@ check_not_equal = refl
 check_form : form_value (term 0 (pos 2) ∷ term 1 (negsuc 0) ∷ []) (pos 3 ∷ pos 1 ∷ []) ≡ pos 5
 check_form = refl
 
-check_width : key_width (atom (term 0 (pos 1) ∷ term 3 (negsuc 0) ∷ []) Le (pos 0) ∷ atom (variable 1) Ge (pos 0) ∷ []) ≡ 4
+check_width : key_width (atom (term 0 (pos 1) ∷ term 3 (negsuc 0) ∷ []) Le (pos 0) ∷ atom (variable 1) Ge (pos 0) ∷ [])
+    ≡ 4
 check_width = refl
 
 check_no_width : key_width [] ≡ 0
@@ -133,13 +137,16 @@ check_divisor_of_zero = refl
 -- ---- the order of atoms
 
 -- by the form first: a proper prefix, then the lesser variable, then the lesser coefficient comes before
-check_prefix : compare_atoms (atom (variable 0) Ne (pos 9)) (atom (term 0 (pos 1) ∷ term 1 (pos 1) ∷ []) Le (pos 0)) ≡ Less
+check_prefix : compare_atoms (atom (variable 0) Ne (pos 9))
+    (atom (term 0 (pos 1) ∷ term 1 (pos 1) ∷ []) Le (pos 0)) ≡ Less
 check_prefix = refl
 
-check_variable : compare_atoms (atom (term 0 (pos 1) ∷ term 1 (pos 9) ∷ []) Le (pos 0)) (atom (term 0 (pos 1) ∷ term 2 (negsuc 8) ∷ []) Le (pos 0)) ≡ Less
+check_variable : compare_atoms (atom (term 0 (pos 1) ∷ term 1 (pos 9) ∷ []) Le (pos 0))
+    (atom (term 0 (pos 1) ∷ term 2 (negsuc 8) ∷ []) Le (pos 0)) ≡ Less
 check_variable = refl
 
-check_coefficient : compare_atoms (atom (term 0 (pos 1) ∷ term 1 (negsuc 8) ∷ []) Le (pos 0)) (atom (term 0 (pos 1) ∷ term 1 (pos 9) ∷ []) Le (pos 0)) ≡ Less
+check_coefficient : compare_atoms (atom (term 0 (pos 1) ∷ term 1 (negsuc 8) ∷ []) Le (pos 0))
+    (atom (term 0 (pos 1) ∷ term 1 (pos 9) ∷ []) Le (pos 0)) ≡ Less
 check_coefficient = refl
 
 -- then by the op, and last by the constant
@@ -174,9 +181,21 @@ check_bounded : IsBounded (atom (variable 0) Eq (pos 3) ∷ [])
 check_bounded = record { lower = lower; upper = upper }
   where
     lower : (v : ℕ) → v < 1 → Any (GivesLower v) (atom (variable 0) Eq (pos 3) ∷ [])
-    lower zero lt = (0, atom (variable 0) Eq (pos 3), omega arith, refl, record { form = refl; op = inr refl; constant = omega (arith, ints) })
+    lower zero lt = (
+      0,
+      atom (variable 0) Eq (pos 3),
+      omega arith,
+      refl,
+      record { form = refl; op = inr refl; constant = omega (arith, ints) },
+    )
     lower (suc v) lt = absurd (omega arith)
 
     upper : (v : ℕ) → v < 1 → Any (GivesUpper v) (atom (variable 0) Eq (pos 3) ∷ [])
-    upper zero lt = (0, atom (variable 0) Eq (pos 3), omega arith, refl, record { form = refl; op = inr refl; constant = omega (arith, ints) })
+    upper zero lt = (
+      0,
+      atom (variable 0) Eq (pos 3),
+      omega arith,
+      refl,
+      record { form = refl; op = inr refl; constant = omega (arith, ints) },
+    )
     upper (suc v) lt = absurd (omega arith)

@@ -1,12 +1,20 @@
 -- What follows from the definitions of conditions, forms and keys: for the proofs of the crates above.
-use Rattle.std.proofs.Common.{◌≡◌, ℕ, zero, suc, ◌%◌, ◌<◌, ◌≤◌, max, List, [], ◌∷◌, get_or, Option, Some, None, IfSome, unsigned_abs, refl, arith}
+use Rattle.std.proofs.Common.{◌≡◌, ℤ, ℕ, zero, suc, ◌%◌, ◌<◌, ◌≤◌, max, List, [], ◌∷◌, get_or, Option, Some, None}
+use Rattle.std.proofs.Common.{IfSome, unsigned_abs, refl, arith}
+use Rattle.std.specs.Bool.{Decides}
 use Rattle.std.specs.Int.{IsGcd, ◌∣◌}
+use Rattle.std.specs.Ordering.{int_eq}
 use Rattle.std.specs.List.{All}
 use Rattle.std.proofs.lemmas.Nat.Gcd.{dvd_antisymm, dvd-zero, dvd_trans, IsGcd-from_zero, IsGcd-from_mod}
+use Rattle.std.proofs.lemmas.Bool.Decides.{Decides-int_eq, Decides-not}
 use Rattle.std.proofs.lemmas.List.Elements.{All-nil, All-cons, All-head, All-tail, All-weaker}
 use Rattle.lin_model.specs.declared.atom.Atom.{Atom}
 use Rattle.lin_model.specs.declared.form.FormTerm.{FormTerm}
+use Rattle.lin_model.specs.declared.op.Op.{Op}
+use Rattle.lin_model.specs.declared.op.Op.TheVariants.{Le, Ge, Eq, Ne}
+use Rattle.lin_model.specs.Integers.{Decides-int_le}
 use Rattle.lin_model.specs.Terms.{PlainTerm}
+use Rattle.lin_model.specs.Test.{passes, Passes}
 use Rattle.lin_model.specs.Conditions.{NamesBelow, AtomNamesBelow}
 use Rattle.lin_model.specs.Form.{gcd_within, gcd, divisor, IsGcdOf, form_width}
 use Rattle.lin_model.specs.KeyAtom.{PlainKeyAtom, IsCanonical}
@@ -25,7 +33,11 @@ NamesBelow-larger n m le terms below k d within = IfSome-larger n m le (get_or t
 
 -- atoms
 pub AtomNamesBelow-larger : (n m : ℕ) → n ≤ m → (atom : Atom) → AtomNamesBelow n atom → AtomNamesBelow m atom
-AtomNamesBelow-larger n m le atom below = record { left = NamesBelow-larger n m le atom.left below.left; right = NamesBelow-larger n m le atom.right below.right }
+AtomNamesBelow-larger n m le atom below = record {
+  left = NamesBelow-larger n m le atom.left below.left;
+  right =
+      NamesBelow-larger n m le atom.right below.right;
+}
 
 -- ---- the divisor of a form
 
@@ -39,7 +51,8 @@ IsGcdOf-cons : (t : FormTerm) (ts : List FormTerm) (g h : ℕ) → IsGcdOf ts g 
 IsGcdOf-cons t ts g h rest two = record {
   divides =
       All-cons (λ u. h ∣ unsigned_abs u.coef) t ts two.0
-      (All-weaker (λ u. g ∣ unsigned_abs u.coef) (λ u. h ∣ unsigned_abs u.coef) (λ u. dvd_trans h two.1) ts rest.divides);
+      (All-weaker (λ u. g ∣ unsigned_abs u.coef) (λ u. h ∣ unsigned_abs u.coef)
+      (λ u. dvd_trans h two.1) ts rest.divides);
   greatest = λ d all.
       two.2 d (All-head (λ u. d ∣ unsigned_abs u.coef) t ts all)
       (rest.greatest d (All-tail (λ u. d ∣ unsigned_abs u.coef) t ts all));
@@ -72,12 +85,24 @@ divisor_from_IsGcdOf form g is =
     let own = IsGcdOf-divisor form in
     dvd_antisymm (own.greatest g is.divides) (is.greatest (divisor form) own.divides)
 
+-- ---- the tests of canonical atoms
+
+-- a test says what its op means
+pub Decides-passes : (op : Op) (c n : ℤ) → Decides (passes op c n) (Passes op c n)
+Decides-passes Le c n = Decides-int_le n c
+Decides-passes Ge c n = Decides-int_le c n
+Decides-passes Eq c n = Decides-int_eq n c
+Decides-passes Ne c n = Decides-not (int_eq n c) (Decides-int_eq n c)
+
 -- ---- the width of a key
 
 -- no form is wider than the key
 pub key_width-above : (atoms : List PlainKeyAtom) → All (λ a. form_width a.form ≤ key_width atoms) atoms
 key_width-above [] = All-nil (λ a. form_width a.form ≤ 0)
-key_width-above (a ∷ atoms) = All-cons (λ b. form_width b.form ≤ max (form_width a.form) (key_width atoms)) a atoms (omega arith) (All-weaker (λ b. form_width b.form ≤ key_width atoms) (λ b. form_width b.form ≤ max (form_width a.form) (key_width atoms)) (λ b h. omega arith) atoms (key_width-above atoms))
+key_width-above (a ∷ atoms) = All-cons (λ b. form_width b.form ≤ max (form_width a.form) (key_width atoms)) a atoms
+    (omega arith) (All-weaker (λ b. form_width b.form ≤ key_width atoms)
+    (λ b. form_width b.form ≤ max (form_width a.form) (key_width atoms)) (λ b h. omega arith) atoms
+    (key_width-above atoms))
 
 -- a form of variables below 64 is no wider than 64
 form-narrow : (form : List FormTerm) → All (λ t. t.var < 64) form → form_width form ≤ 64
@@ -87,7 +112,12 @@ form-narrow (t ∷ ts) h = omega (arith, h 0 t (omega arith), form-narrow ts (λ
 -- nor are canonical atoms
 atoms-narrow : (atoms : List PlainKeyAtom) → All IsCanonical atoms → key_width atoms ≤ 64
 atoms-narrow [] h = omega arith
-atoms-narrow (a ∷ atoms) h = omega (arith, form-narrow a.form (h 0 a (omega arith)).form.variables.in_range, atoms-narrow atoms (λ k d lt. h (suc k) d (omega arith)))
+atoms-narrow (a ∷ atoms) h =
+    omega (
+      arith,
+      form-narrow a.form (h 0 a (omega arith)).form.variables.in_range,
+      atoms-narrow atoms (λ k d lt. h (suc k) d (omega arith)),
+    )
 
 -- a key has at most 64 variables
 pub key-narrow : (key : List PlainKeyAtom) → IsKey key → key_width key ≤ 64

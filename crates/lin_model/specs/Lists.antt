@@ -1,5 +1,8 @@
--- Facts on lists and on values that may be missing, whatever they hold. They say nothing of this crate: the proofs of several crates use them.
-use Rattle.std.proofs.Common.{◌≡◌, ℕ, zero, suc, ◌+◌, ◌<◌, ◌≤◌, Bool, true, false, cond, Option, Some, None, List, [], ◌∷◌, ◌++◌, length, drop, get_or, slice_get, ◌⊎◌, inl, inr, refl, sym, ap, subst, ◌∙◌, arith}
+-- Facts on lists and on values that may be missing, whatever they hold. They say nothing of this crate: the proofs of
+-- several crates use them.
+use Rattle.std.proofs.Common.{◌≡◌, ℕ, zero, suc, ◌+◌, ◌<◌, ◌≤◌, Bool, true, false, cond, Option, Some, None, List, []}
+use Rattle.std.proofs.Common.{◌∷◌, ◌++◌, length, drop, get_or, slice_get, ◌⊎◌, inl, inr, refl, sym, ap, subst, ◌∙◌}
+use Rattle.std.proofs.Common.{arith}
 use Rattle.std.specs.Prelude.{Contains, IsTrue, ◌↔◌}
 use Rattle.std.specs.List.{All, AllZip, filter_map, cons_option}
 use Rattle.std.specs.Option.{IsSomeAnd}
@@ -116,7 +119,8 @@ Found-at (x ∷ xs) zero lt = record { value = x; is = refl; holds = tt }
 Found-at (x ∷ xs) (suc i) lt = Found-at xs i (omega arith)
 
 -- where something holds of the value at a place, the place is in the list
-pub within_from_IsSomeAnd : {X : Type 0} (xs : List X) (P : X → Type 0) (i : ℕ) → IsSomeAnd (slice_get xs i) P → i < length xs
+pub within_from_IsSomeAnd : {X : Type 0} (xs : List X) (P : X → Type 0) (i : ℕ) → IsSomeAnd (slice_get xs i) P
+    → i < length xs
 within_from_IsSomeAnd [] P i some = absurd some
 within_from_IsSomeAnd (x ∷ xs) P zero some = omega arith
 within_from_IsSomeAnd (x ∷ xs) P (suc i) some = let lt = within_from_IsSomeAnd xs P i some in omega arith
@@ -128,7 +132,8 @@ All-at P (y ∷ xs) zero x all is = let same : y ≡ x = cc in subst P same (All
 All-at P (y ∷ xs) (suc i) x all is = All-at P xs i x (All-tail P y xs all) is
 
 -- what holds of two lists, place by place, holds at each place
-pub AllZip-at : {A B : Type 0} (R : A → B → Type 0) (xs : List A) (ys : List B) (k : ℕ) (d : A) (e : B) → AllZip R xs ys → k < length xs → R (get_or xs k d) (get_or ys k e)
+pub AllZip-at : {A B : Type 0} (R : A → B → Type 0) (xs : List A) (ys : List B) (k : ℕ) (d : A) (e : B) → AllZip R xs ys
+    → k < length xs → R (get_or xs k d) (get_or ys k e)
 AllZip-at R [] ys k d e all lt = absurd (omega (arith, lt))
 AllZip-at R (x ∷ xs) [] k d e all lt = absurd all
 AllZip-at R (x ∷ xs) (y ∷ ys) zero d e all lt = all.0
@@ -147,7 +152,8 @@ none_there [] some h is = refl
 none_there (x ∷ xs) some h is = let yes' : some ≡ true = h.1 (omega arith) in absurd (cc)
 
 -- where it says yes, the list has a first element
-pub some_there : {X : Type 0} (xs : List X) (some : Bool) → (IsTrue some ↔ (0 < length xs)) → some ≡ true → (x : X) × (rest : List X) × (xs ≡ x ∷ rest)
+pub some_there : {X : Type 0} (xs : List X) (some : Bool) → (IsTrue some ↔ (0 < length xs)) → some ≡ true
+    → (x : X) × (rest : List X) × (xs ≡ x ∷ rest)
 some_there [] some h is = absurd (omega (arith, h.0 is))
 some_there (x ∷ xs) some h is = (x, xs, refl)
 
@@ -162,11 +168,15 @@ below_or_last k n lt =
 -- ---- parts of a list
 
 -- what stands behind a piece that stands at a place
-pub drop-behind : {X : Type 0} (all : List X) (at : ℕ) (xs ys : List X) → drop at all ≡ xs ++ ys → drop (at + length xs) all ≡ ys
-drop-behind {X} all at xs ys e = sym (drop-drop (length xs) at all) ∙ (ap (λ (zs : List X). drop (length xs) zs) e ∙ drop-append_seam xs ys)
+pub drop-behind : {X : Type 0} (all : List X) (at : ℕ) (xs ys : List X) → drop at all ≡ xs ++ ys
+    → drop (at + length xs) all ≡ ys
+drop-behind {X} all at xs ys e =
+    sym (drop-drop (length xs) at all) ∙ (ap (λ (zs : List X). drop (length xs) zs) e ∙ drop-append_seam xs ys)
 
 -- a list that is parted at two elements: the second lies behind the first, at it, or before it
-pub parted : {X : Type 0} (xs ys : List X) (x : X) (us vs : List X) (u : X) → xs ++ x ∷ ys ≡ us ++ u ∷ vs → ((mid : List X) × (us ≡ xs ++ x ∷ mid) × (ys ≡ mid ++ u ∷ vs)) ⊎ ((xs ≡ us) × (x ≡ u) × (ys ≡ vs)) ⊎ ((mid : List X) × (xs ≡ us ++ u ∷ mid) × (vs ≡ mid ++ x ∷ ys))
+pub parted : {X : Type 0} (xs ys : List X) (x : X) (us vs : List X) (u : X) → xs ++ x ∷ ys ≡ us ++ u ∷ vs
+    → ((mid : List X) × (us ≡ xs ++ x ∷ mid) × (ys ≡ mid ++ u ∷ vs)) ⊎ ((xs ≡ us) × (x ≡ u) × (ys ≡ vs))
+    ⊎ ((mid : List X) × (xs ≡ us ++ u ∷ mid) × (vs ≡ mid ++ x ∷ ys))
 parted [] ys x [] vs u e = inr (inl (refl, cc, cc))
 parted {X} [] ys x (w ∷ us) vs u e = inl (us, (let same : w ≡ x = cc in ap (λ (y : X). y ∷ us) same), cc)
 parted {X} (w ∷ xs) ys x [] vs u e = inr (inr (xs, (let same : w ≡ u = cc in ap (λ (y : X). y ∷ xs) same), cc))

@@ -1,5 +1,6 @@
 -- Every query has keys for its slices, or a least atom that no integers satisfy.
-use Rattle.std.proofs.Common.{◌≡◌, ℕ, ◌+◌, ◌≤◌, zero, suc, Option, Some, None, List, [], ◌∷◌, length, take, get_or, Bool, true, false, cond, nat_lt, ◌⊎◌, inl, inr, subst, arith}
+use Rattle.std.proofs.Common.{◌≡◌, ℕ, ◌+◌, ◌≤◌, zero, suc, Option, Some, None, List, [], ◌∷◌, length, take, get_or}
+use Rattle.std.proofs.Common.{Bool, true, false, cond, nat_lt, ◌⊎◌, inl, inr, subst, arith}
 use Rattle.std.specs.List.{All, AllZip, Contains}
 use Rattle.std.proofs.Math.Seq.{take-length}
 use Rattle.std.proofs.lemmas.List.{get_or_default}
@@ -24,7 +25,9 @@ record CanonicalsOf (q : PlainCondition) (slices : List PlainSlice) : Type 0 whe
   pub each : AllZip (Canonises q) slices canonicals
   pub limits : All IsWithinLimits canonicals
 
-canonicals_of : EachHasCanonical → (q : PlainCondition) → IsCondition q → (slices : List PlainSlice) → AreSlices q slices → (rest : List PlainSlice) → ((s : PlainSlice) → Contains rest s → Contains slices s) → CanonicalsOf q rest
+canonicals_of : EachHasCanonical → (q : PlainCondition) → IsCondition q → (slices : List PlainSlice)
+    → AreSlices q slices → (rest : List PlainSlice) → ((s : PlainSlice) → Contains rest s → Contains slices s)
+    → CanonicalsOf q rest
 canonicals_of law q fits slices are [] among = record { canonicals = []; each = tt; limits = All-nil IsWithinLimits }
 canonicals_of law q fits slices are (s ∷ rest) among =
     let here = law q s fits (record { slices = slices; all = are; one = among s (Contains-first s rest) }) in
@@ -46,9 +49,15 @@ least_of canonicals zero few = record { least = None; is = All-nil HasKey }
 least_of canonicals (suc i) few =
     let before = least_of canonicals i (omega arith) in
     let c = get_or canonicals i (False 0) in
-    let more = least_more canonicals i c before.least (omega arith) (get_or_default canonicals i (False 0) c (omega arith)) before.is in
+    let more =
+    least_more canonicals i c before.least (omega arith)
+    (get_or_default canonicals i (False 0) c (omega arith)) before.is in
     let next : i + 1 ≡ suc i = omega arith in
-    record { least = least_with before.least c; is = subst (λ (n : ℕ). IsLeastSoFar (take n canonicals) (least_with before.least c)) next more }
+    record {
+      least = least_with before.least c;
+      is =
+          subst (λ (n : ℕ). IsLeastSoFar (take n canonicals) (least_with before.least c)) next more;
+    }
 
 record SomeFalseAmong (canonicals : List Canonical) : Type 0 where
   pub number : ℕ
@@ -69,7 +78,8 @@ false_or_keys canonicals =
 abbrev pub KeepsLimits : SliceKey → Type 0
 KeepsLimits k = AreWithinLimits k.key k.back
 
-limits_by : (wide : Bool) (k : SliceKey) (rest : List SliceKey) → KeepsLimits k → All KeepsLimits rest → All KeepsLimits (cond wide (k ∷ rest) rest)
+limits_by : (wide : Bool) (k : SliceKey) (rest : List SliceKey) → KeepsLimits k → All KeepsLimits rest
+    → All KeepsLimits (cond wide (k ∷ rest) rest)
 limits_by true k rest here later = All-cons KeepsLimits k rest here later
 limits_by false k rest here later = later
 
@@ -77,7 +87,9 @@ limits_in : (canonicals : List Canonical) → All IsWithinLimits canonicals → 
 limits_in [] limits = All-nil KeepsLimits
 limits_in (False j ∷ canonicals) limits = limits_in canonicals (All-tail IsWithinLimits (False j) canonicals limits)
 limits_in (Key key back ∷ canonicals) limits =
-    limits_by (nat_lt 0 (length back)) (record { key = key; back = back }) (keys_in canonicals) (All-head IsWithinLimits (Key key back) canonicals limits) (limits_in canonicals (All-tail IsWithinLimits (Key key back) canonicals limits))
+    limits_by (nat_lt 0 (length back)) (record { key = key; back = back }) (keys_in canonicals)
+    (All-head IsWithinLimits (Key key back) canonicals limits)
+    (limits_in canonicals (All-tail IsWithinLimits (Key key back) canonicals limits))
 
 -- the query's least atom that no integers satisfy
 pub record SomeFalse (q : PlainCondition) : Type 0 where
@@ -90,14 +102,20 @@ pub record SomeKeys (q : PlainCondition) : Type 0 where
   pub are : AreKeyed q keys
   pub limits : All KeepsLimits keys
 
-pub keys_or_false : EachHasSlices → SlicesPartition → EachHasCanonical → (q : PlainCondition) → IsCondition q → SomeKeys q ⊎ SomeFalse q
+pub keys_or_false : EachHasSlices → SlicesPartition → EachHasCanonical → (q : PlainCondition) → IsCondition q
+    → SomeKeys q ⊎ SomeFalse q
 keys_or_false slices_exist parts canonical_exists q fits =
     let some = slices_exist q in
     let all = canonicals_of canonical_exists q fits some.slices some.are some.slices (λ s has. has) in
     elim (false_or_keys all.canonicals) [
       | inl one ↦ inr (record {
         number = one.number;
-        is = record { slices = some.slices; are = some.are; least = least_is_false q some.slices all.canonicals one.number parts fits.fits some.are all.each one.least };
+        is = record {
+          slices = some.slices;
+          are = some.are;
+          least =
+              least_is_false q some.slices all.canonicals one.number parts fits.fits some.are all.each one.least;
+        };
       })
       | inr keys ↦ inl (record {
         keys = keys_in all.canonicals;

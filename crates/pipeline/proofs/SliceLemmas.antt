@@ -1,5 +1,7 @@
 -- From what the slices come to, to their keys.
-use Rattle.std.proofs.Common.{◌≡◌, ◌↔◌, ℕ, zero, suc, ◌<◌, ℤ, pos, Bool, true, false, cond, nat_lt, Option, Some, None, IsSomeAnd, List, [], ◌∷◌, ◌++◌, length, get_or, slice_get, arith, refl, sym, subst, ap, ◌∙◌}
+use Rattle.std.proofs.Common.{◌≡◌, ◌↔◌, ℕ, suc, ◌<◌, ℤ, Bool, true, false, cond, nat_lt, Option, Some, None}
+use Rattle.std.proofs.Common.{IsSomeAnd, List, [], ◌∷◌, ◌++◌, length, get_or, slice_get, arith, refl, sym, subst, ap}
+use Rattle.std.proofs.Common.{◌∙◌}
 use Rattle.std.specs.List.{All, Any, AllZip, Contains, filter_map}
 use Rattle.std.proofs.lemmas.Bool.{ltb-false}
 use Rattle.std.proofs.lemmas.Slice.Zip.{AllZip-long}
@@ -17,7 +19,7 @@ use Rattle.slicer.specs.Laws.{SlicesPartition}
 use Rattle.canoniser.specs.declared.canonical.Canonical.{Canonical}
 use Rattle.canoniser.specs.declared.canonical.Canonical.TheVariants.{False, Key}
 use Rattle.canoniser.specs.Facts.{no_key}
-use Rattle.canoniser.specs.Solutions.{IsFalse, IsFalseAt, IsCanonised, SliceHolds, point_of}
+use Rattle.canoniser.specs.Solutions.{IsFalse, IsFalseAt, SliceHolds, point_of}
 use Rattle.canoniser.specs.Answers.{Canonises}
 use Rattle.pipeline.specs.declared.slice_keys.SliceKey.{SliceKey}
 use Rattle.pipeline.specs.Answers.{NoneIsFalse, IsLeastFalse}
@@ -33,11 +35,13 @@ All-filter_map h P xs x y all has is = All-contains P (filter_map h xs) y all (C
 -- ---- atoms that no integers satisfy
 
 -- an atom of a slice that comes to a number no less isn't one
-none_before : (q : PlainCondition) (s : PlainSlice) (c : Canonical) (i j : ℕ) → Canonises q s c → IsNotBelow j c → Contains s.atoms i → i < j → IsFalseAt q i → ⊥
+none_before : (q : PlainCondition) (s : PlainSlice) (c : Canonical) (i j : ℕ) → Canonises q s c → IsNotBelow j c
+    → Contains s.atoms i → i < j → IsFalseAt q i → ⊥
 none_before q s (False n) i j h below has lt bad = h.first i has (omega (arith, below, lt)) bad
 none_before q s (Key key back) i j h below has lt bad = h.none_false i has bad
 
-none_in_key : (q : PlainCondition) (s : PlainSlice) (c : Canonical) (i : ℕ) → Canonises q s c → HasKey c → Contains s.atoms i → IsFalseAt q i → ⊥
+none_in_key : (q : PlainCondition) (s : PlainSlice) (c : Canonical) (i : ℕ) → Canonises q s c → HasKey c
+    → Contains s.atoms i → IsFalseAt q i → ⊥
 none_in_key q s (False n) i h is has bad = absurd is
 none_in_key q s (Key key back) i h is has bad = h.none_false i has bad
 
@@ -49,7 +53,9 @@ pub record Found (q : PlainCondition) (slices : List PlainSlice) (cs : List Cano
   pub has : Contains slice.atoms i
   pub each : (e : Canonical) → Canonises q slice (get_or cs place e)
 
-find_slice : (q : PlainCondition) (slices : List PlainSlice) (cs : List Canonical) (i : ℕ) → SlicesPartition → Fits q.vars q.atoms → AreSlices q slices → AllZip (Canonises q) slices cs → i < length q.atoms → Found q slices cs i
+find_slice : (q : PlainCondition) (slices : List PlainSlice) (cs : List Canonical) (i : ℕ) → SlicesPartition
+    → Fits q.vars q.atoms → AreSlices q slices → AllZip (Canonises q) slices cs → i < length q.atoms
+    → Found q slices cs i
 find_slice q slices cs i law fits are zip lt = of ((law q slices fits.in_range are).each_atom i lt)
   where
     of : Any (λ slice. Contains slice.atoms i) slices → Found q slices cs i
@@ -58,25 +64,37 @@ find_slice q slices cs i law fits are zip lt = of ((law q slices fits.in_range a
       place = k;
       within = omega (arith, within, AllZip-long (Canonises q) slices cs zip);
       has = has;
-      each = λ e. subst (λ (x : PlainSlice). Canonises q x (get_or cs k e)) is (AllZip-at (Canonises q) slices cs k s e zip within);
+      each =
+          λ e. subst (λ (x : PlainSlice). Canonises q x (get_or cs k e)) is
+          (AllZip-at (Canonises q) slices cs k s e zip within);
     }
 
 -- there is an atom of this number
 has_number : (q : PlainCondition) (i : ℕ) → IsFalseAt q i → i < length q.atoms
 has_number q i bad = within_from_IsSomeAnd q.atoms IsFalse i bad
 
-pub least_is_false : (q : PlainCondition) (slices : List PlainSlice) (cs : List Canonical) (j : ℕ) → SlicesPartition → Fits q.vars q.atoms → AreSlices q slices → AllZip (Canonises q) slices cs → IsLeastFalseAmong cs j → IsLeastFalse q j
+pub least_is_false : (q : PlainCondition) (slices : List PlainSlice) (cs : List Canonical) (j : ℕ) → SlicesPartition
+    → Fits q.vars q.atoms → AreSlices q slices → AllZip (Canonises q) slices cs → IsLeastFalseAmong cs j
+    → IsLeastFalse q j
 least_is_false q slices cs j law fits are zip false_j = record {
   is_false = told false_j.one;
-  least = λ i lt bad. let f = find_slice q slices cs i law fits are zip (has_number q i bad) in none_before q f.slice (get_or cs f.place (False j)) i j (f.each (False j)) (false_j.least f.place (False j) f.within) f.has lt bad;
+  least = λ i lt bad. let f = find_slice q slices cs i law fits are zip (has_number q i bad) in
+      none_before q f.slice (get_or cs f.place (False j)) i j (f.each (False j))
+      (false_j.least f.place (False j) f.within) f.has lt bad;
 }
   where
     told : Contains cs (False j) → IsFalseAt q j
-    told (k, lt, is) = let within : k < length slices = omega (arith, lt, AllZip-long (Canonises q) slices cs zip) in (subst (Canonises q (get_or slices k (record { vars = []; atoms = [] }))) is (AllZip-at (Canonises q) slices cs k (record { vars = []; atoms = [] }) (False j) zip within)).is_false
+    told (k, lt, is) = let within : k < length slices =
+        omega (arith, lt, AllZip-long (Canonises q) slices cs zip) in
+        (subst (Canonises q (get_or slices k (record { vars = []; atoms = [] }))) is
+        (AllZip-at (Canonises q) slices cs k (record { vars = []; atoms = [] }) (False j) zip within)).is_false
 
-none_is_false : (q : PlainCondition) (slices : List PlainSlice) (cs : List Canonical) → SlicesPartition → Fits q.vars q.atoms → AreSlices q slices → AllZip (Canonises q) slices cs → All HasKey cs → NoneIsFalse q
+none_is_false : (q : PlainCondition) (slices : List PlainSlice) (cs : List Canonical) → SlicesPartition
+    → Fits q.vars q.atoms → AreSlices q slices → AllZip (Canonises q) slices cs → All HasKey cs → NoneIsFalse q
 none_is_false q slices cs law fits are zip keys i bad =
-    let f = find_slice q slices cs i law fits are zip (has_number q i bad) in none_in_key q f.slice (get_or cs f.place (False 0)) i (f.each (False 0)) (keys f.place (False 0) f.within) f.has bad
+    let f = find_slice q slices cs i law fits are zip (has_number q i bad) in
+    none_in_key q f.slice (get_or cs f.place (False 0)) i (f.each (False 0))
+    (keys f.place (False 0) f.within) f.has bad
 
 -- ---- slices with variables
 
@@ -106,13 +124,21 @@ keep true k ks is = refl
 keep false k ks is = absurd (cc)
 
 -- each slice has a variable, and each comes to a key
-classes-keyed : (q : PlainCondition) (classes : List PlainSlice) (cs : List Canonical) → All (λ s. 0 < length s.vars) classes → AllZip (Canonises q) classes cs → All HasKey cs → AllZip (IsKeyed q) classes (keys_in cs)
+classes-keyed : (q : PlainCondition) (classes : List PlainSlice) (cs : List Canonical)
+    → All (λ s. 0 < length s.vars) classes → AllZip (Canonises q) classes cs → All HasKey cs
+    → AllZip (IsKeyed q) classes (keys_in cs)
 classes-keyed q [] [] some zip keys = tt
 classes-keyed q [] (c ∷ cs) some zip keys = absurd zip
 classes-keyed q (s ∷ classes) [] some zip keys = absurd zip
 classes-keyed q (s ∷ classes) (False j ∷ cs) some zip keys = absurd (All-head HasKey (False j) cs keys)
 classes-keyed q (s ∷ classes) (Key key back ∷ cs) some zip keys =
-    subst (AllZip (IsKeyed q) (s ∷ classes)) (sym (keep (nat_lt 0 (length back)) (record { key = key; back = back }) (keys_in cs) (some_width back s.vars zip.0.vars (All-head (λ t. 0 < length t.vars) s classes some)))) (zip.0, classes-keyed q classes cs (All-tail (λ t. 0 < length t.vars) s classes some) zip.1 (All-tail HasKey (Key key back) cs keys))
+    subst (AllZip (IsKeyed q) (s ∷ classes))
+    (sym (keep (nat_lt 0 (length back)) (record { key = key; back = back }) (keys_in cs)
+    (some_width back s.vars zip.0.vars (All-head (λ t. 0 < length t.vars) s classes some)))) (
+      zip.0,
+      classes-keyed q classes cs (All-tail (λ t. 0 < length t.vars) s classes some) zip.1
+          (All-tail HasKey (Key key back) cs keys),
+    )
 
 -- the slice of a class has its least variable
 class-has_var : (q : PlainCondition) (s : PlainSlice) → IsSliceOf q (least s) s → 0 < length s.vars
@@ -121,24 +147,30 @@ class-has_var q s is = of s.vars ((is.vars.just (least s)).1 (is.declared, alone
     of : (xs : List ℕ) → Contains xs (least s) → 0 < length xs
     of xs (k, lt, e) = omega (arith, lt)
 
-classes-have_vars : (q : PlainCondition) (classes : List PlainSlice) → All (λ s. IsSliceOf q (least s) s) classes → All (λ s. 0 < length s.vars) classes
+classes-have_vars : (q : PlainCondition) (classes : List PlainSlice) → All (λ s. IsSliceOf q (least s) s) classes
+    → All (λ s. 0 < length s.vars) classes
 classes-have_vars q classes each k d lt = class-has_var q (get_or classes k d) (each k d lt)
 
 -- ---- the slice without variables
 
 -- its atoms hold whatever the assignment
-always_holds : (q : PlainCondition) (s : PlainSlice) (c : Canonical) → s.vars ≡ [] → Canonises q s c → HasKey c → (values : List ℤ) → IsAssignment q.vars values → SliceHolds q s values
+always_holds : (q : PlainCondition) (s : PlainSlice) (c : Canonical) → s.vars ≡ [] → Canonises q s c → HasKey c
+    → (values : List ℤ) → IsAssignment q.vars values → SliceHolds q s values
 always_holds q s (False j) none h is values assigned = absurd is
 always_holds q s (Key key back) none h is values assigned =
-    let empty : back ≡ [] = no_width back (subst (λ (vs : List ℕ). (v : ℕ) → Contains back v ↔ Contains vs v) none h.vars) in
-    (h.same values assigned).1 (subst (λ (k : List PlainKeyAtom). KeyHolds k (point_of back values)) (sym (no_key q s key (sym h.numbered ∙ empty) h.is_key)) (λ k d lt. absurd (omega arith)))
+    let empty : back ≡ [] =
+    no_width back (subst (λ (vs : List ℕ). (v : ℕ) → Contains back v ↔ Contains vs v) none h.vars) in
+    (h.same values assigned).1 (subst (λ (k : List PlainKeyAtom). KeyHolds k (point_of back values))
+    (sym (no_key q s key (sym h.numbered ∙ empty) h.is_key)) (λ k d lt. absurd (omega arith)))
 
-pub atom_holds_at : (q : PlainCondition) (s : PlainSlice) (values : List ℤ) (j : ℕ) → SliceHolds q s values → Contains s.atoms j → j < length q.atoms → HoldsAt q values j
+pub atom_holds_at : (q : PlainCondition) (s : PlainSlice) (values : List ℤ) (j : ℕ) → SliceHolds q s values
+    → Contains s.atoms j → j < length q.atoms → HoldsAt q values j
 atom_holds_at q s values j holds has lt = of (slice_get q.atoms j) refl
   where
     of : (o : Option Atom) → slice_get q.atoms j ≡ o → IsSomeAnd o (λ atom. AtomHolds atom values)
     of None e = let there = (Found-at q.atoms j lt).is in absurd (cc)
-    of (Some atom) e = All-filter_map (λ j. slice_get q.atoms j) (λ atom. AtomHolds atom values) s.atoms j atom holds has e
+    of (Some atom) e =
+        All-filter_map (λ j. slice_get q.atoms j) (λ atom. AtomHolds atom values) s.atoms j atom holds has e
 
 -- ---- the keys
 
@@ -150,15 +182,22 @@ is_false : (xs : List ℕ) → xs ≡ [] → nat_lt 0 (length xs) ≡ false
 is_false xs e = ap (λ (ys : List ℕ). nat_lt 0 (length ys)) e
 
 -- the slice without variables stands in front
-one_front : (q : PlainCondition) (s : PlainSlice) (slices : List PlainSlice) (are : AreSlices q slices) (cs : List Canonical) → IsVariableFree (NamesNothingAt q.atoms) s → AllZip (Canonises q) (s ∷ are.classes) cs → All HasKey cs → NoneIsFalse q → AreKeyed q (keys_in cs)
+one_front : (q : PlainCondition) (s : PlainSlice) (slices : List PlainSlice) (are : AreSlices q slices)
+    (cs : List Canonical) → IsVariableFree (NamesNothingAt q.atoms) s → AllZip (Canonises q) (s ∷ are.classes) cs
+    → All HasKey cs → NoneIsFalse q → AreKeyed q (keys_in cs)
 one_front q s slices are [] free zip keys none_false = absurd zip
 one_front q s slices are (False j ∷ cs) free zip keys none_false = absurd (All-head HasKey (False j) cs keys)
 one_front q s slices are (Key key back ∷ cs) free zip keys none_false = record {
   slices = slices;
   are = are;
-  each = subst (AllZip (IsKeyed q) are.classes) (sym (drop_key (nat_lt 0 (length back)) (record { key = key; back = back }) (keys_in cs) (is_false back empty))) (classes-keyed q are.classes cs (classes-have_vars q are.classes are.linked.each) zip.1 (All-tail HasKey (Key key back) cs keys));
+  each = subst (AllZip (IsKeyed q) are.classes)
+      (sym (drop_key (nat_lt 0 (length back)) (record { key = key; back = back }) (keys_in cs) (is_false back empty)))
+      (classes-keyed q are.classes cs (classes-have_vars q are.classes are.linked.each) zip.1
+      (All-tail HasKey (Key key back) cs keys));
   none_false = none_false;
-  variable_free = λ values assigned j names. atom_holds_at q s values j (always_holds q s (Key key back) free.vars zip.0 tt values assigned) ((free.atoms.just j).1 names) (has_atom j names);
+  variable_free = λ values assigned j names. atom_holds_at q s values j
+      (always_holds q s (Key key back) free.vars zip.0 tt values assigned) ((free.atoms.just j).1 names)
+      (has_atom j names);
 }
   where
     empty : back ≡ []
@@ -167,13 +206,16 @@ one_front q s slices are (Key key back ∷ cs) free zip keys none_false = record
     has_atom : (j : ℕ) → NamesNothingAt q.atoms j → j < length q.atoms
     has_atom j names = within_from_IsSomeAnd q.atoms (λ atom. atom_vars atom ≡ []) j names
 
-pub keys_are_keyed : (q : PlainCondition) (slices : List PlainSlice) (cs : List Canonical) → SlicesPartition → Fits q.vars q.atoms → AreSlices q slices → AllZip (Canonises q) slices cs → All HasKey cs → AreKeyed q (keys_in cs)
+pub keys_are_keyed : (q : PlainCondition) (slices : List PlainSlice) (cs : List Canonical) → SlicesPartition
+    → Fits q.vars q.atoms → AreSlices q slices → AllZip (Canonises q) slices cs → All HasKey cs
+    → AreKeyed q (keys_in cs)
 keys_are_keyed q slices cs law fits are zip keys = of are.front are.variable_free are.joined
   where
     joined : (front : List PlainSlice) → slices ≡ front ++ are.classes → AllZip (Canonises q) (front ++ are.classes) cs
     joined front is = subst (λ (ss : List PlainSlice). AllZip (Canonises q) ss cs) is zip
 
-    of : (front : List PlainSlice) → IsFront (NamesNothingAt q.atoms) front → slices ≡ front ++ are.classes → AreKeyed q (keys_in cs)
+    of : (front : List PlainSlice) → IsFront (NamesNothingAt q.atoms) front → slices ≡ front ++ are.classes
+        → AreKeyed q (keys_in cs)
     of [] none is = record {
       slices = slices;
       are = are;
@@ -181,5 +223,6 @@ keys_are_keyed q slices cs law fits are zip keys = of are.front are.variable_fre
       none_false = none_is_false q slices cs law fits are zip keys;
       variable_free = λ values assigned j names. absurd (none j names);
     }
-    of (s ∷ []) one is = one_front q s slices are cs one (joined (s ∷ []) is) keys (none_is_false q slices cs law fits are zip keys)
+    of (s ∷ []) one is =
+        one_front q s slices are cs one (joined (s ∷ []) is) keys (none_is_false q slices cs law fits are zip keys)
     of (s ∷ t ∷ more) bad is = absurd bad

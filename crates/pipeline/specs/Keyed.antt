@@ -1,5 +1,6 @@
 -- The keys of a query's slices.
-use Rattle.std.specs.Prelude.{ℕ, ◌≤◌, min, nat_lt, if◌then◌else◌, Option, Some, None, IsSomeAnd, ℤ, List, [], ◌∷◌, length, Contains}
+use Rattle.std.specs.Prelude.{ℕ, ◌≤◌, min, nat_lt, if◌then◌else◌, Option, Some, None, IsSomeAnd, ℤ, List, [], ◌∷◌}
+use Rattle.std.specs.Prelude.{length, Contains}
 use Rattle.std.specs.List.{All, AllZip, slice_get}
 use Rattle.lin_model.specs.Conditions.{PlainCondition}
 use Rattle.lin_model.specs.Truth.{AtomHolds, IsAssignment}
@@ -21,13 +22,15 @@ HoldsAt q values j = IsSomeAnd (slice_get q.atoms j) (λ atom. AtomHolds atom va
 abbrev pub IsKeyed : PlainCondition → PlainSlice → SliceKey → Type 0
 IsKeyed q slice k = IsCanonised q slice k.back k.key
 
--- each atom is satisfied by some integers, those without variables hold, and these are the keys of the slices with variables
+-- each atom is satisfied by some integers, those without variables hold, and these are the keys of the slices with
+-- variables
 pub record AreKeyed (q : PlainCondition) (keys : List SliceKey) : Type 0 where
   pub slices : List PlainSlice
   pub are : AreSlices q slices
   pub each : AllZip (IsKeyed q) are.classes keys
   pub none_false : NoneIsFalse q
-  pub variable_free : (values : List ℤ) → IsAssignment q.vars values → (j : ℕ) → NamesNothingAt q.atoms j → HoldsAt q values j
+  pub variable_free : (values : List ℤ) → IsAssignment q.vars values → (j : ℕ) → NamesNothingAt q.atoms j
+      → HoldsAt q values j
 
 -- the query has slices, and this is its least atom that no integers satisfy
 pub record HasLeastFalse (q : PlainCondition) (j : ℕ) : Type 0 where
@@ -67,4 +70,8 @@ least_with least (Key key back) = least
 abbrev pub keys_in : List Canonical → List SliceKey
 keys_in [] = []
 keys_in (False j ∷ canonicals) = keys_in canonicals
-keys_in (Key key back ∷ canonicals) = if nat_lt 0 (length back) then record { key = key; back = back } ∷ keys_in canonicals else keys_in canonicals
+keys_in (Key key back ∷ canonicals) = if nat_lt 0 (length back) then record {
+  key = key;
+  back =
+      back;
+} ∷ keys_in canonicals else keys_in canonicals

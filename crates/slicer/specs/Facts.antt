@@ -1,5 +1,5 @@
 -- What follows from the definitions of names: for the proofs of the crates above.
-use Rattle.std.proofs.Common.{ℕ, ◌<◌, List, Option, Some, inl, inr, subst}
+use Rattle.std.proofs.Common.{ℕ, ◌<◌, List, Option, inl, inr, subst}
 use Rattle.std.specs.Prelude.{Contains, IfSome}
 use Rattle.std.proofs.lemmas.List.Elements.{All-contains, Contains-append_cases}
 use Rattle.lin_model.specs.Terms.{PlainTerm}

@@ -13,7 +13,9 @@ loop-term-preserved c =
     let d : FormTerm = record { var = 0; coef = pos 0 } in
     let fits : FitsSigned w64 (get_or c.args.terms.now c.loop-term.term-index d).coef = search rules in
     let size = simp to_z-of_z at c.unsigned_abs.ensures.value in
-    IsGcdOf-more c.args.terms.now c.loop-term.term-index d c.loop-term.gcd c.gcd_of_two-gcd.result c.loop-term-test.true c.loop-term.invariant (subst (λ n. IsGcd c.loop-term.gcd n c.gcd_of_two-gcd.result) size c.gcd_of_two-gcd.ensures)
+    IsGcdOf-more c.args.terms.now c.loop-term.term-index d c.loop-term.gcd c.gcd_of_two-gcd.result c.loop-term-test.true
+    c.loop-term.invariant
+    (subst (λ n. IsGcd c.loop-term.gcd n c.gcd_of_two-gcd.result) size c.gcd_of_two-gcd.ensures)
 
 pub returns : goal.returns
 returns c =
