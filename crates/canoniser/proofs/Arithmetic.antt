@@ -1,5 +1,6 @@
 -- Negated products, sizes and whole quotients of integers.
-use Rattle.std.proofs.Common.{◌≡◌, ◌≢◌, ℕ, zero, suc, ◌+◌, ◌-◌, ◌*◌, ◌/◌, ◌%◌, ◌<◌, ◌↔◌, ℤ, pos, negsuc, ◌+ℤ◌, ◌*ℤ◌, neg_ℤ, ◌≤ℤ◌, unsigned_abs, ⊎_elim, refl, arith, ap}
+use Rattle.std.proofs.Common.{◌≡◌, ◌≢◌, ℕ, zero, suc, ◌+◌, ◌-◌, ◌*◌, ◌/◌, ◌%◌, ◌<◌, ◌↔◌, ℤ, pos, negsuc, ◌+ℤ◌, ◌*ℤ◌}
+use Rattle.std.proofs.Common.{neg_ℤ, ◌≤ℤ◌, unsigned_abs, ⊎_elim, refl, arith, ap}
 use Rattle.std.specs.Int.{◌∣◌}
 use Rattle.std.proofs.Math.Nat.{mul-le-mul_left, mod-lt, div-add-mod, mul-div_cancel'}
 use Rattle.std.proofs.lemmas.Bool.{cases_lt}
@@ -10,11 +11,25 @@ use Rattle.lin_model.specs.Integers.{distrib_left, scale_up}
 
 pub neg_left : (a b : ℤ) → neg_ℤ a *ℤ b ≡ neg_ℤ (a *ℤ b)
 neg_left a b =
-    omega (arith, ints, ap (λ (x : ℕ). x * up b) (neg_is a).0, ap (λ (x : ℕ). x * down b) (neg_is a).0, ap (λ (x : ℕ). x * up b) (neg_is a).1, ap (λ (x : ℕ). x * down b) (neg_is a).1)
+    omega (
+      arith,
+      ints,
+      ap (λ (x : ℕ). x * up b) (neg_is a).0,
+      ap (λ (x : ℕ). x * down b) (neg_is a).0,
+      ap (λ (x : ℕ). x * up b) (neg_is a).1,
+      ap (λ (x : ℕ). x * down b) (neg_is a).1,
+    )
 
 pub neg_right : (a b : ℤ) → a *ℤ neg_ℤ b ≡ neg_ℤ (a *ℤ b)
 neg_right a b =
-    omega (arith, ints, ap (λ (x : ℕ). up a * x) (neg_is b).0, ap (λ (x : ℕ). down a * x) (neg_is b).0, ap (λ (x : ℕ). up a * x) (neg_is b).1, ap (λ (x : ℕ). down a * x) (neg_is b).1)
+    omega (
+      arith,
+      ints,
+      ap (λ (x : ℕ). up a * x) (neg_is b).0,
+      ap (λ (x : ℕ). down a * x) (neg_is b).0,
+      ap (λ (x : ℕ). up a * x) (neg_is b).1,
+      ap (λ (x : ℕ). down a * x) (neg_is b).1,
+    )
 
 -- the size of what isn't 0
 pub abs-positive : (z : ℤ) → z ≢ pos 0 → 0 < unsigned_abs z
@@ -53,7 +68,16 @@ floor_div-above w c g h =
     let q = floor_div c g in
     let rest = floor_div-rest c g h in (
       λ below. omega (arith, ints, rest.2, scale_up g w q below),
-      λ below. by_lt_z q w (λ less. absurd (omega (arith, ints, rest.1, rest.2, distrib_left (pos g) q (pos 1), scale_up g (q +ℤ pos 1) w (omega (arith, ints))))) (λ le. le),
+      λ below. by_lt_z q w
+          (λ less. absurd
+          (omega (
+            arith,
+            ints,
+            rest.1,
+            rest.2,
+            distrib_left (pos g) q (pos 1),
+            scale_up g (q +ℤ pos 1) w (omega (arith, ints)),
+          ))) (λ le. le),
     )
 
 pub ceil_div-below : (w c : ℤ) (g : ℕ) → 0 < g → (ceil_div c g ≤ℤ w) ↔ (c ≤ℤ (pos g *ℤ w))

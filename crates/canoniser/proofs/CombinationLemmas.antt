@@ -1,5 +1,6 @@
 -- Numbers have a common divisor that is a sum of multiples of them.
-use Rattle.std.proofs.Common.{◌≡◌, ◌≢◌, ℕ, zero, suc, ◌+◌, ◌*◌, ◌/◌, ◌%◌, ◌<◌, ◌≤◌, List, [], ◌∷◌, ℤ, pos, negsuc, ◌+ℤ◌, ◌-ℤ◌, ◌*ℤ◌, neg_ℤ, unsigned_abs, inl, inr, refl, arith, ap, sym, subst, ◌∙◌}
+use Rattle.std.proofs.Common.{◌≡◌, ◌≢◌, ℕ, zero, suc, ◌+◌, ◌*◌, ◌/◌, ◌%◌, ◌<◌, ◌≤◌, List, [], ◌∷◌, ℤ, pos, negsuc, ◌+ℤ◌}
+use Rattle.std.proofs.Common.{◌-ℤ◌, ◌*ℤ◌, neg_ℤ, unsigned_abs, inl, inr, refl, arith, ap, sym, subst, ◌∙◌}
 use Rattle.std.specs.Prelude.{Contains, AllPairs, if◌then◌else◌, ◌==◌}
 use Rattle.std.specs.Int.{◌∣◌}
 use Rattle.std.proofs.Math.Nat.{dvd-mod_iff, mod-lt, div-add-mod}
@@ -24,7 +25,8 @@ record Bezout (a b : ℕ) : Type 0 where
   pub sum : (pos a *ℤ p) +ℤ (pos b *ℤ q) ≡ pos divisor
 
 -- one step of Euclid's walk
-euclid_sum : (a b k r : ℕ) (p q d : ℤ) → b * k + r ≡ a → (pos b *ℤ p) +ℤ (pos r *ℤ q) ≡ d → (pos a *ℤ q) +ℤ (pos b *ℤ (p -ℤ (pos k *ℤ q))) ≡ d
+euclid_sum : (a b k r : ℕ) (p q d : ℤ) → b * k + r ≡ a → (pos b *ℤ p) +ℤ (pos r *ℤ q) ≡ d
+    → (pos a *ℤ q) +ℤ (pos b *ℤ (p -ℤ (pos k *ℤ q))) ≡ d
 euclid_sum a b k r p q d whole sum =
     let parts : pos a ≡ (pos b *ℤ pos k) +ℤ pos r = omega (arith, ints, pos-*ℤ-pos b k, whole) in
     let first = ap (λ (x : ℤ). x *ℤ q) parts ∙ distrib_right (pos b *ℤ pos k) (pos r) q in
@@ -65,7 +67,12 @@ total f x (v ∷ vs) = (f v *ℤ x v) +ℤ total f x vs
 pub total-same : (f x y : ℕ → ℤ) (vs : List ℕ) → ((v : ℕ) → Contains vs v → x v ≡ y v) → total f x vs ≡ total f y vs
 total-same f x y [] same = refl
 total-same f x y (v ∷ vs) same =
-    omega (arith, ints, ap (λ (n : ℤ). f v *ℤ n) (same v (Contains-first v vs)), total-same f x y vs (λ w has. same w (Contains-later v vs w has)))
+    omega (
+      arith,
+      ints,
+      ap (λ (n : ℤ). f v *ℤ n) (same v (Contains-first v vs)),
+      total-same f x y vs (λ w has. same w (Contains-later v vs w has)),
+    )
 
 swap_times : (a b c : ℤ) → a *ℤ (b *ℤ c) ≡ b *ℤ (a *ℤ c)
 swap_times a b c = sym (times_assoc a b c) ∙ ap (λ (n : ℤ). n *ℤ c) (*ℤ_comm a b) ∙ times_assoc b a c
@@ -99,20 +106,38 @@ chosen-other : (w v : ℕ) (a b : ℤ) → w ≢ v → (if w == v then a else b)
 chosen-other w v a b h = grind (arith, nat_tests)
 
 -- one factor more
-longer : (f : ℕ → ℤ) (v : ℕ) (vs : List ℕ) → AllPairs ◌≢◌ (v ∷ vs) → (rest : Combination f vs) → Bezout (unsigned_abs (f v)) rest.divisor → Combination f (v ∷ vs)
+longer : (f : ℕ → ℤ) (v : ℕ) (vs : List ℕ) → AllPairs ◌≢◌ (v ∷ vs) → (rest : Combination f vs)
+    → Bezout (unsigned_abs (f v)) rest.divisor → Combination f (v ∷ vs)
 longer f v vs distinct rest two =
     let at : ℕ → ℤ = λ w. if w == v then signed (f v) two.p else two.q *ℤ rest.at w in
-    let first = ap (λ (n : ℤ). f v *ℤ n) (chosen-same v v (signed (f v) two.p) (two.q *ℤ rest.at v) refl) ∙ signed-times (f v) two.p in
-    let others = total-same f at (λ w. two.q *ℤ rest.at w) vs (λ w has. chosen-other w v (signed (f v) two.p) (two.q *ℤ rest.at w) (λ e. distinct-head v vs distinct (subst (Contains vs) e has))) in
-    let second = others ∙ total-scaled f rest.at two.q vs ∙ ap (λ (n : ℤ). two.q *ℤ n) rest.sum ∙ *ℤ_comm two.q (pos rest.divisor) in record {
+    let first =
+    ap (λ (n : ℤ). f v *ℤ n) (chosen-same v v (signed (f v) two.p) (two.q *ℤ rest.at v) refl)
+    ∙ signed-times (f v) two.p in
+    let others = total-same f at (λ w. two.q *ℤ rest.at w) vs
+    (λ w has. chosen-other w v (signed (f v) two.p) (two.q *ℤ rest.at w)
+    (λ e. distinct-head v vs distinct (subst (Contains vs) e has))) in
+    let second =
+    others ∙ total-scaled f rest.at two.q vs ∙ ap (λ (n : ℤ). two.q *ℤ n) rest.sum
+    ∙ *ℤ_comm two.q (pos rest.divisor) in record {
       divisor = two.divisor;
-      divides = λ w has. elim (Contains-cases v vs w has) [ inl same ↦ subst (λ u. two.divisor ∣ unsigned_abs (f u)) same two.left | inr behind ↦ dvd_trans two.divisor two.right (rest.divides w behind) ];
+      divides = λ w has. elim (Contains-cases v vs w has) [
+        | inl same ↦
+            subst (λ u. two.divisor ∣ unsigned_abs (f u)) same two.left
+        | inr behind ↦
+            dvd_trans two.divisor two.right (rest.divides w behind)
+      ];
       at = at;
       sum = omega (arith, ints, first, second, two.sum);
     }
 
 pub combination : (f : ℕ → ℤ) (vs : List ℕ) → AllPairs ◌≢◌ vs → Combination f vs
-combination f [] distinct = record { divisor = 0; divides = λ v has. absurd (omega (arith, has.1)); at = λ v. pos 0; sum = refl }
+combination f [] distinct = record {
+  divisor = 0;
+  divides = λ v has. absurd (omega (arith, has.1));
+  at =
+      λ v. pos 0;
+  sum = refl;
+}
 combination f (v ∷ vs) distinct =
     let rest = combination f vs (distinct-tail v vs distinct) in
     longer f v vs distinct rest (bezout rest.divisor (unsigned_abs (f v)) rest.divisor (omega arith))

@@ -1,5 +1,6 @@
 -- The strongest of given atoms: some list has just these, in order, and each given atom is implied by one of them.
-use Rattle.std.proofs.Common.{◌≡◌, ◌↔◌, ◌≤◌, List, [], ◌∷◌, length, Ordering, ◌⊎◌, inl, inr, refl, sym, ap, ◌∙◌, subst, arith}
+use Rattle.std.proofs.Common.{◌≡◌, ◌↔◌, ◌≤◌, List, [], ◌∷◌, length, Ordering, ◌⊎◌, inl, inr, refl, sym, ap, ◌∙◌, subst}
+use Rattle.std.proofs.Common.{arith}
 use Rattle.std.specs.declared.cmp.Ordering.TheVariants.{Less, Equal, Greater}
 use Rattle.std.specs.List.{Contains}
 use Rattle.std.proofs.lemmas.Bool.{cases_Bool, both_ways}
@@ -13,7 +14,8 @@ use Rattle.atom_implies.specs.Implies.{Implies, Covers}
 use Rattle.atom_implies.specs.Table.{table_says}
 use Rattle.atom_implies.specs.Laws.{TableIsRight}
 use Rattle.canoniser.specs.Keys.{IsStrongest}
-use Rattle.canoniser.proofs.ImplicationLemmas.{Implies-antisym, Implies-refl, Implies-trans, IsCovered-by, Covers-from_each}
+use Rattle.canoniser.proofs.ImplicationLemmas.{Implies-antisym, Implies-refl, Implies-trans, IsCovered-by}
+use Rattle.canoniser.proofs.ImplicationLemmas.{Covers-from_each}
 use Rattle.canoniser.proofs.SortedLemmas.{sort}
 use Rattle.canoniser.proofs.StrongestLemmas.{plain}
 
@@ -22,9 +24,13 @@ module _ (order : IsAtomOrder) where
   -- ---- what can be told of two atoms
 
   equal_by : (a b : PlainKeyAtom) (o : Ordering) → compare_atoms a b ≡ o → (a ≡ b) ⊎ ¬ (a ≡ b)
-  equal_by a b Less is = inr (λ same. let tied : compare_atoms a b ≡ Equal = subst (λ (x : PlainKeyAtom). compare_atoms a x ≡ Equal) same (tied_itself order.total a) in let none : ⊥ = cc in none)
+  equal_by a b Less is = inr (λ same. let tied : compare_atoms a b ≡ Equal =
+      subst (λ (x : PlainKeyAtom). compare_atoms a x ≡ Equal) same (tied_itself order.total a) in let none : ⊥ =
+      cc in none)
   equal_by a b Equal is = inl (order.apart a b is)
-  equal_by a b Greater is = inr (λ same. let tied : compare_atoms a b ≡ Equal = subst (λ (x : PlainKeyAtom). compare_atoms a x ≡ Equal) same (tied_itself order.total a) in let none : ⊥ = cc in none)
+  equal_by a b Greater is = inr (λ same. let tied : compare_atoms a b ≡ Equal =
+      subst (λ (x : PlainKeyAtom). compare_atoms a x ≡ Equal) same (tied_itself order.total a) in let none : ⊥ =
+      cc in none)
 
   equal_or_not : (a b : PlainKeyAtom) → (a ≡ b) ⊎ ¬ (a ≡ b)
   equal_or_not a b = equal_by a b (compare_atoms a b) refl
@@ -39,7 +45,8 @@ module _ (order : IsAtomOrder) where
   implies_or_not right a b = elim (same_form_or_not a.form b.form) [
     | inl same ↦ elim (cases_Bool (table_says a.op a.constant b.op b.constant)) [
       | inl says ↦ inl (record { same_form = same; tests = (right a.op a.constant b.op b.constant).0 says })
-      | inr says_not ↦ inr (λ implied. both_ways (table_says a.op a.constant b.op b.constant) says_not ((right a.op a.constant b.op b.constant).1 implied.tests))
+      | inr says_not ↦ inr (λ implied. both_ways (table_says a.op a.constant b.op b.constant) says_not
+          ((right a.op a.constant b.op b.constant).1 implied.tests))
     ]
     | inr differ ↦ inr (λ implied. differ implied.same_form)
   ]
@@ -57,7 +64,8 @@ module _ (order : IsAtomOrder) where
     pub implies : Implies atom a
     pub alone : NoneImplies given atom
 
-  above_more : TableIsRight → (x : PlainKeyAtom) (xs : List PlainKeyAtom) (a : PlainKeyAtom) → (so_far : Above xs a) → Implies x so_far.atom ⊎ ¬ Implies x so_far.atom → Above (x ∷ xs) a
+  above_more : TableIsRight → (x : PlainKeyAtom) (xs : List PlainKeyAtom) (a : PlainKeyAtom) → (so_far : Above xs a)
+      → Implies x so_far.atom ⊎ ¬ Implies x so_far.atom → Above (x ∷ xs) a
   above_more right x xs a so_far (inl implied) = record {
     atom = x;
     among = inr (Contains-first x xs);
@@ -82,18 +90,30 @@ module _ (order : IsAtomOrder) where
   }
 
   above : TableIsRight → (given : List PlainKeyAtom) (a : PlainKeyAtom) → Above given a
-  above right [] a = record { atom = a; among = inl refl; implies = Implies-refl a; alone = λ b has. absurd (omega (arith, has.1)) }
+  above right [] a = record {
+    atom = a;
+    among = inl refl;
+    implies = Implies-refl a;
+    alone =
+        λ b has. absurd (omega (arith, has.1));
+  }
   above right (x ∷ xs) a =
       let so_far = above right xs a in
       above_more right x xs a so_far (implies_or_not right x so_far.atom)
 
   -- whether another atom of the list implies it
-  none_implies_or_not : TableIsRight → (given : List PlainKeyAtom) (a : PlainKeyAtom) → NoneImplies given a ⊎ ¬ NoneImplies given a
+  none_implies_or_not : TableIsRight → (given : List PlainKeyAtom) (a : PlainKeyAtom)
+      → NoneImplies given a ⊎ ¬ NoneImplies given a
   none_implies_or_not right given a =
       let top = above right given a in
       elim (equal_or_not a top.atom) [
         | inl same ↦ inl (subst (NoneImplies given) (sym same) top.alone)
-        | inr differ ↦ inr (λ alone. elim top.among [ inl same ↦ differ same | inr has ↦ differ (sym (alone top.atom has top.implies)) ])
+        | inr differ ↦
+            inr (λ alone. elim top.among [
+              | inl same ↦ differ same
+              | inr has ↦
+                  differ (sym (alone top.atom has top.implies))
+            ])
       ]
 
   -- ---- the strongest atoms
@@ -105,7 +125,12 @@ module _ (order : IsAtomOrder) where
     pub few : length atoms ≤ length given
 
   keep : (P : PlainKeyAtom → Type 0) → ((a : PlainKeyAtom) → P a ⊎ ¬ P a) → (given : List PlainKeyAtom) → Kept P given
-  keep P tell [] = record { atoms = []; has = λ a. (λ has. absurd (omega (arith, has.1)), λ both. both.0); few = omega arith }
+  keep P tell [] = record {
+    atoms = [];
+    has = λ a. (λ has. absurd (omega (arith, has.1)), λ both. both.0);
+    few =
+        omega arith;
+  }
   keep P tell (x ∷ xs) =
       let rest = keep P tell xs in
       elim (tell x) [
@@ -148,7 +173,8 @@ module _ (order : IsAtomOrder) where
   strongest_exist right given =
       let kept = keep (NoneImplies given) (none_implies_or_not right given) given in
       let sorted = sort order kept.atoms in
-      let has_both : (a : PlainKeyAtom) → Contains given a → NoneImplies given a → Contains sorted.atoms a = λ a has alone. (sorted.has a).1 ((kept.has a).1 (has, alone)) in
+      let has_both : (a : PlainKeyAtom) → Contains given a → NoneImplies given a → Contains sorted.atoms a =
+      λ a has alone. (sorted.has a).1 ((kept.has a).1 (has, alone)) in
       record {
         atoms = sorted.atoms;
         ascends = sorted.ascends;
@@ -158,7 +184,8 @@ module _ (order : IsAtomOrder) where
         );
         covers = Covers-from_each sorted.atoms given (λ b has.
             let top = above right given b in
-            let given_top : Contains given top.atom = elim top.among [ inl same ↦ subst (Contains given) same has | inr in_given ↦ in_given ] in
+            let given_top : Contains given top.atom =
+            elim top.among [ inl same ↦ subst (Contains given) same has | inr in_given ↦ in_given ] in
             IsCovered-by sorted.atoms top.atom b (has_both top.atom given_top top.alone) top.implies);
         few = omega (arith, kept.few, sorted.few);
       }

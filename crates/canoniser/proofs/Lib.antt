@@ -8,9 +8,9 @@ mod MeaningLemmas
 mod CanonicalLemmas
 mod CombinationLemmas
 mod ReachLemmas
-mod PossibleLemmas
+mod FalseLemmas
 mod ScalingLemmas
-mod ScaledOutcomes
+mod ScaledForms
 mod ScaledConditions
 mod Worked
 mod PartLemmas
@@ -20,13 +20,12 @@ mod BoundLemmas
 mod SliceLemmas
 mod KeyLemmas
 mod KeyWidthLemmas
-mod SaidLemmas
+mod KeyAtomsLemmas
 mod TurnLemmas
 mod CanonisedLemmas
 mod SortedLemmas
 mod GivenLemmas
-mod OutcomeLemmas
-mod AllSaidLemmas
+mod AllAtomsLemmas
 mod SomeBoundsLemmas
 mod ExistenceLemmas
 mod UniqueLemmas

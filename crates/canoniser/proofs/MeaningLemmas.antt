@@ -1,17 +1,18 @@
--- What an atom comes to holds where the atom holds.
-use Rattle.std.proofs.Common.{◌≡◌, ◌≢◌, ℕ, ◌<◌, ◌*◌, ◌%◌, ◌↔◌, Bool, true, false, List, [], ◌∷◌, map, ℤ, pos, ◌+ℤ◌, ◌-ℤ◌, ◌*ℤ◌, neg_ℤ, ◌≤ℤ◌, ◌<ℤ◌, refl, arith, eqb-true, eq-eqb, ap, sym, subst, ◌∙◌}
-use Rattle.std.specs.Prelude.{IsTrue, Contains, AllPairs, int_le, not, unsigned_abs, if◌then◌else◌}
+-- The canonical form of an atom holds where the atom holds.
+use Rattle.std.proofs.Common.{◌≡◌, ◌≢◌, ℕ, ◌<◌, ◌*◌, ◌%◌, ◌↔◌, Bool, true, false, List, [], ◌∷◌, map, ℤ, pos, ◌+ℤ◌}
+use Rattle.std.proofs.Common.{◌-ℤ◌, ◌*ℤ◌, neg_ℤ, ◌<ℤ◌, refl, arith, eqb-true, eq-eqb, ap, sym, subst, ◌∙◌}
+use Rattle.std.specs.Prelude.{Contains, AllPairs, unsigned_abs, if◌then◌else◌}
 use Rattle.std.specs.Int.{◌∣◌}
 use Rattle.std.specs.List.{All}
 use Rattle.std.proofs.lemmas.Nat.Gcd.{dvd_of_mod-eq-zero, mod-eq-zero_of_dvd}
 use Rattle.std.proofs.Math.Nat.{dvd-mul_right}
-use Rattle.std.specs.Ordering.{int_eq}
 use Rattle.std.proofs.lemmas.Int.{ints, by_lt_z, unsigned_abs-mul}
 use Rattle.std.proofs.lemmas.List.Elements.{All-head, All-tail}
 use Rattle.lin_model.specs.Terms.{value_at, value_of}
 use Rattle.lin_model.specs.Truth.{Compares, AtomHolds}
-use Rattle.lin_model.specs.Form.{form_value, DividesAll}
-use Rattle.lin_model.specs.Test.{passes}
+use Rattle.lin_model.specs.Facts.{IsGcdOf-divisor, Decides-passes}
+use Rattle.lin_model.specs.Form.{form_value, divisor, DividesAll}
+use Rattle.lin_model.specs.Test.{passes, Passes}
 use Rattle.lin_model.specs.KeyAtom.{PlainKeyAtom, KeyAtomHolds}
 use Rattle.lin_model.specs.declared.atom.Atom.{Atom}
 use Rattle.lin_model.specs.declared.atom.Cmp.{Cmp}
@@ -23,44 +24,14 @@ use Rattle.lin_model.specs.Quotients.{floor_div}
 use Rattle.lin_model.specs.Integers.{distrib_left, times_assoc, scale_up}
 use Rattle.slicer.specs.Names.{Names}
 use Rattle.canoniser.specs.Gathered.{constant, op_of, loose}
-use Rattle.canoniser.specs.Forms.{Outcome, always, never, says, terms_from, gathered, oriented, turned, turned_op, begins_negative, divides, divided, reduced, IsOutcome, ComesTo}
-use Rattle.canoniser.specs.Solutions.{point_of, IsNever}
+use Rattle.canoniser.specs.declared.atom_form.AtomForm.{AtomForm}
+use Rattle.canoniser.specs.declared.atom_form.AtomForm.TheVariants.{True, False, KeyAtom}
+use Rattle.canoniser.specs.Forms.{terms_from, gathered, oriented, turned, turned_op, begins_negative, divides, divided}
+use Rattle.canoniser.specs.Forms.{reduced, primitive, canonical_form}
+use Rattle.canoniser.specs.Solutions.{point_of, IsFalse}
 use Rattle.canoniser.proofs.Arithmetic.{neg_left, floor_div-exact, floor_div-above, ceil_div-below}
 use Rattle.canoniser.proofs.LimitsLemmas.{gcd-positive, nonzero-oriented}
 use Rattle.canoniser.proofs.SideLemmas.{gathered_value}
-
--- ---- tests
-
--- the number passes the test
-abbrev pub Passes : Op → ℤ → ℤ → Type 0
-Passes AtMost c n = n ≤ℤ c
-Passes AtLeast c n = c ≤ℤ n
-Passes Equals c n = n ≡ c
-Passes Differs c n = n ≢ c
-
-le_true : (a b : ℤ) → a ≤ℤ b → int_le a b ≡ true
-le_true a b h = grind (arith, ints)
-
-true_le : (a b : ℤ) → int_le a b ≡ true → a ≤ℤ b
-true_le a b h = grind (arith, ints)
-
-eq_true : (a b : ℤ) → a ≡ b → int_eq a b ≡ true
-eq_true a b h = grind (arith, ints)
-
-true_eq : (a b : ℤ) → int_eq a b ≡ true → a ≡ b
-true_eq a b h = grind (arith, ints)
-
-ne_true : (a b : ℤ) → a ≢ b → not (int_eq a b) ≡ true
-ne_true a b h = grind (arith, ints)
-
-true_ne : (a b : ℤ) → not (int_eq a b) ≡ true → a ≢ b
-true_ne a b h e = grind (arith, ints)
-
-pub passes-tells : (op : Op) (c n : ℤ) → IsTrue (passes op c n) ↔ Passes op c n
-passes-tells AtMost c n = (true_le n c, le_true n c)
-passes-tells AtLeast c n = (true_le c n, le_true c n)
-passes-tells Equals c n = (true_eq n c, eq_true n c)
-passes-tells Differs c n = (true_ne n c, ne_true n c)
 
 -- ---- both directions, one after another
 
@@ -81,13 +52,17 @@ compares_loosely Ne l r c n e = (λ h same. h (omega (arith, ints)), λ h same. 
 abbrev pub HoldsAt : PlainKeyAtom → List ℤ → Type 0
 HoldsAt a point = Passes a.op a.constant (form_value a.form point)
 
-gathered-holds : (order : List ℕ) (atom : Atom) (values : List ℤ) → AllPairs ◌≢◌ order → ((v : ℕ) → Names atom v → Contains order v) → AtomHolds atom values ↔ HoldsAt (gathered order atom) (point_of order values)
+gathered-holds : (order : List ℕ) (atom : Atom) (values : List ℤ) → AllPairs ◌≢◌ order
+    → ((v : ℕ) → Names atom v → Contains order v)
+    → AtomHolds atom values ↔ HoldsAt (gathered order atom) (point_of order values)
 gathered-holds order atom values distinct named =
-    compares_loosely atom.cmp (value_of atom.left values) (value_of atom.right values) (constant atom) (form_value (terms_from 0 order atom) (point_of order values)) (gathered_value order atom values distinct named)
+    compares_loosely atom.cmp (value_of atom.left values) (value_of atom.right values) (constant atom)
+    (form_value (terms_from 0 order atom) (point_of order values)) (gathered_value order atom values distinct named)
 
 -- ---- both sides times -1
 
-pub turned-value : (form : List FormTerm) (point : List ℤ) → form_value (map (λ t. record { var = t.var; coef = neg_ℤ t.coef }) form) point ≡ neg_ℤ (form_value form point)
+pub turned-value : (form : List FormTerm) (point : List ℤ)
+    → form_value (map (λ t. record { var = t.var; coef = neg_ℤ t.coef }) form) point ≡ neg_ℤ (form_value form point)
 turned-value [] point = omega (arith, ints)
 turned-value (t ∷ ts) point =
     omega (arith, ints, neg_left t.coef (value_at point t.var), turned-value ts point)
@@ -98,25 +73,39 @@ turned-passes AtLeast c n m e = (λ h. omega (arith, ints), λ h. omega (arith, 
 turned-passes Equals c n m e = (λ h. omega (arith, ints), λ h. omega (arith, ints))
 turned-passes Differs c n m e = (λ h same. h (omega (arith, ints)), λ h same. h (omega (arith, ints)))
 
-oriented_by : (negative : Bool) (a : PlainKeyAtom) (point : List ℤ) → HoldsAt a point ↔ HoldsAt (if negative then turned a else a) point
+oriented_by : (negative : Bool) (a : PlainKeyAtom) (point : List ℤ)
+    → HoldsAt a point ↔ HoldsAt (if negative then turned a else a) point
 oriented_by true a point =
-    turned-passes a.op a.constant (form_value a.form point) (form_value (turned a).form point) (turned-value a.form point)
+    turned-passes a.op a.constant (form_value a.form point) (form_value (turned a).form point)
+    (turned-value a.form point)
 oriented_by false a point = (λ h. h, λ h. h)
 
-pub oriented-holds : (order : List ℕ) (atom : Atom) (values : List ℤ) → AllPairs ◌≢◌ order → ((v : ℕ) → Names atom v → Contains order v) → AtomHolds atom values ↔ HoldsAt (oriented (gathered order atom)) (point_of order values)
+pub oriented-holds : (order : List ℕ) (atom : Atom) (values : List ℤ) → AllPairs ◌≢◌ order
+    → ((v : ℕ) → Names atom v → Contains order v)
+    → AtomHolds atom values ↔ HoldsAt (oriented (gathered order atom)) (point_of order values)
 oriented-holds order atom values distinct named =
-    and_then (gathered-holds order atom values distinct named) (oriented_by (begins_negative (gathered order atom).form) (gathered order atom) (point_of order values))
+    and_then (gathered-holds order atom values distinct named)
+    (oriented_by (begins_negative (gathered order atom).form) (gathered order atom) (point_of order values))
 
 -- ---- both sides divided
 
-pub divided-value : (g : ℕ) (form : List FormTerm) (point : List ℤ) → 0 < g → DividesAll g form → form_value form point ≡ pos g *ℤ form_value (divided g form) point
+pub divided-value : (g : ℕ) (form : List FormTerm) (point : List ℤ) → 0 < g → DividesAll g form
+    → form_value form point ≡ pos g *ℤ form_value (divided g form) point
 divided-value g [] point h all = omega (arith, ints)
 divided-value g (t ∷ ts) point h all =
     let q = floor_div t.coef g in
     let x = value_at point t.var in
-    let exact = ap (λ (n : ℤ). n *ℤ x) (floor_div-exact t.coef g h (All-head (λ u. g ∣ unsigned_abs u.coef) t ts all)) in
+    let exact =
+    ap (λ (n : ℤ). n *ℤ x) (floor_div-exact t.coef g h (All-head (λ u. g ∣ unsigned_abs u.coef) t ts all)) in
     let rest = divided-value g ts point h (All-tail (λ u. g ∣ unsigned_abs u.coef) t ts all) in
-    omega (arith, ints, exact, times_assoc (pos g) q x, distrib_left (pos g) (q *ℤ x) (form_value (divided g ts) point), rest)
+    omega (
+      arith,
+      ints,
+      exact,
+      times_assoc (pos g) q x,
+      distrib_left (pos g) (q *ℤ x) (form_value (divided g ts) point),
+      rest,
+    )
 
 -- a positive factor of both sides
 pub times_same : (g : ℕ) (a b : ℤ) → 0 < g → pos g *ℤ a ≡ pos g *ℤ b → a ≡ b
@@ -125,7 +114,8 @@ times_same g a b h e =
     (λ le. by_lt_z b a (λ less. absurd (above b a less (sym e))) (λ ge. omega (arith, ints)))
   where
     above : (x y : ℤ) → x <ℤ y → pos g *ℤ x ≡ pos g *ℤ y → ⊥
-    above x y less same = omega (arith, ints, scale_up g (x +ℤ pos 1) y (omega (arith, ints)), distrib_left (pos g) x (pos 1))
+    above x y less same =
+        omega (arith, ints, scale_up g (x +ℤ pos 1) y (omega (arith, ints)), distrib_left (pos g) x (pos 1))
 
 -- the constant of what a division gives, so far as it is an atom
 reduced-passes-equal : (g : ℕ) (c n m : ℤ) → 0 < g → g ∣ unsigned_abs c → n ≡ pos g *ℤ m → (n ≡ c) ↔ (m ≡ floor_div c g)
@@ -134,39 +124,57 @@ reduced-passes-equal g c n m h d value = (
   λ e. value ∙ ap (λ (x : ℤ). pos g *ℤ x) e ∙ sym (floor_div-exact c g h d),
 )
 
--- ---- what each outcome says of an atom `form op constant`
+-- ---- what each form says of an atom `form op constant`
 
-abbrev pub Means : List FormTerm → Op → ℤ → Outcome → Type 0
-Means form op c always = (point : List ℤ) → Passes op c (form_value form point)
-Means form op c never = (point : List ℤ) → ¬ Passes op c (form_value form point)
-Means form op c (says a) = (point : List ℤ) → Passes op c (form_value form point) ↔ HoldsAt a point
+abbrev pub Means : List FormTerm → Op → ℤ → AtomForm → Type 0
+Means form op c True = (point : List ℤ) → Passes op c (form_value form point)
+Means form op c False = (point : List ℤ) → ¬ Passes op c (form_value form point)
+Means form op c (KeyAtom a) = (point : List ℤ) → Passes op c (form_value form point) ↔ HoldsAt a point
 
-alone_by : (test : Bool) (op : Op) (c : ℤ) → passes op c (pos 0) ≡ test → Means [] op c (if test then always else never)
-alone_by true op c e = λ point. (passes-tells op c (pos 0)).0 e
-alone_by false op c e = λ point h. absurd (cc (e, (passes-tells op c (pos 0)).1 h))
+alone_by : (test : Bool) (op : Op) (c : ℤ) → passes op c (pos 0) ≡ test → Means [] op c (if test then True else False)
+alone_by true op c e = λ point. (Decides-passes op c (pos 0)).0 e
+alone_by false op c e = λ point h. absurd (cc (e, (Decides-passes op c (pos 0)).1 h))
 
 not_divided : (g : ℕ) (c n m : ℤ) → 0 < g → n ≡ pos g *ℤ m → n ≡ c → divides g c ≡ true
 not_divided g c n m h value same =
     let size : unsigned_abs c ≡ g * unsigned_abs m = ap unsigned_abs (sym same ∙ value) ∙ unsigned_abs-mul (pos g) m in
-    eq-eqb (unsigned_abs c % g) 0 (mod-eq-zero_of_dvd g (subst (λ k. g ∣ k) (sym size) (dvd-mul_right g (unsigned_abs m))))
+    eq-eqb (unsigned_abs c % g) 0
+    (mod-eq-zero_of_dvd g (subst (λ k. g ∣ k) (sym size) (dvd-mul_right g (unsigned_abs m))))
 
 pub divisor_from_test : (g : ℕ) (c : ℤ) → divides g c ≡ true → g ∣ unsigned_abs c
 divisor_from_test g c e = dvd_of_mod-eq-zero g (eqb-true (unsigned_abs c % g) 0 e)
 
-equal_by : (test : Bool) (g : ℕ) (form : List FormTerm) (c : ℤ) → 0 < g → DividesAll g form → divides g c ≡ test → Means form Equals c (if test then says (record { form = divided g form; op = Equals; constant = floor_div c g }) else never)
+equal_by : (test : Bool) (g : ℕ) (form : List FormTerm) (c : ℤ) → 0 < g → DividesAll g form → divides g c ≡ test
+    → Means form Equals c
+    (if test then KeyAtom (record { form = divided g form; op = Equals; constant = floor_div c g }) else False)
 equal_by true g form c h all e = λ point.
-    reduced-passes-equal g c (form_value form point) (form_value (divided g form) point) h (divisor_from_test g c e) (divided-value g form point h all)
+    reduced-passes-equal g c (form_value form point) (form_value (divided g form) point) h (divisor_from_test g c e)
+    (divided-value g form point h all)
 equal_by false g form c h all e = λ point same.
-    absurd (cc (e, not_divided g c (form_value form point) (form_value (divided g form) point) h (divided-value g form point h all) same))
+    absurd
+    (cc (
+      e,
+      not_divided g c (form_value form point) (form_value (divided g form) point) h
+          (divided-value g form point h all) same,
+    ))
 
-differ_by : (test : Bool) (g : ℕ) (form : List FormTerm) (c : ℤ) → 0 < g → DividesAll g form → divides g c ≡ test → Means form Differs c (if test then says (record { form = divided g form; op = Differs; constant = floor_div c g }) else always)
+differ_by : (test : Bool) (g : ℕ) (form : List FormTerm) (c : ℤ) → 0 < g → DividesAll g form → divides g c ≡ test
+    → Means form Differs c
+    (if test then KeyAtom (record { form = divided g form; op = Differs; constant = floor_div c g }) else True)
 differ_by true g form c h all e = λ point.
-    let same = reduced-passes-equal g c (form_value form point) (form_value (divided g form) point) h (divisor_from_test g c e) (divided-value g form point h all) in
+    let same = reduced-passes-equal g c (form_value form point) (form_value (divided g form) point) h
+    (divisor_from_test g c e) (divided-value g form point h all) in
     (λ other e. other (same.1 e), λ other e. other (same.0 e))
 differ_by false g form c h all e = λ point same.
-    absurd (cc (e, not_divided g c (form_value form point) (form_value (divided g form) point) h (divided-value g form point h all) same))
+    absurd
+    (cc (
+      e,
+      not_divided g c (form_value form point) (form_value (divided g form) point) h
+          (divided-value g form point h all) same,
+    ))
 
-reduced-means : (g : ℕ) (form : List FormTerm) (op : Op) (c : ℤ) → 0 < g → DividesAll g form → Means form op c (reduced g form op c)
+reduced-means : (g : ℕ) (form : List FormTerm) (op : Op) (c : ℤ) → 0 < g → DividesAll g form
+    → Means form op c (reduced g form op c)
 reduced-means g form AtMost c h all = λ point.
     let value = divided-value g form point h all in
     let both = floor_div-above (form_value (divided g form) point) c g h in
@@ -178,31 +186,44 @@ reduced-means g form AtLeast c h all = λ point.
 reduced-means g form Equals c h all = equal_by (divides g c) g form c h all refl
 reduced-means g form Differs c h all = differ_by (divides g c) g form c h all refl
 
-outcome-means : (form : List FormTerm) (op : Op) (c : ℤ) (outcome : Outcome) → All (λ t. t.coef ≢ pos 0) form → IsOutcome form op c outcome → Means form op c outcome
-outcome-means [] op c outcome nonzero e =
-    subst (Means [] op c) (sym e) (alone_by (passes op c (pos 0)) op c refl)
-outcome-means (t ∷ ts) op c outcome nonzero made =
-    let positive = gcd-positive (t ∷ ts) made.divisor (omega arith) nonzero made.greatest in
-    subst (Means (t ∷ ts) op c) (sym made.quotient) (reduced-means made.divisor (t ∷ ts) op c positive made.greatest.divides)
+primitive-means : (form : List FormTerm) (op : Op) (c : ℤ) → All (λ t. t.coef ≢ pos 0) form
+    → Means form op c (primitive form op c)
+primitive-means [] op c nonzero = alone_by (passes op c (pos 0)) op c refl
+primitive-means (t ∷ ts) op c nonzero =
+    let g = divisor (t ∷ ts) in
+    let is = IsGcdOf-divisor (t ∷ ts) in
+    reduced-means g (t ∷ ts) op c (gcd-positive (t ∷ ts) g (omega arith) nonzero is) is.divides
 
--- ---- what an atom comes to
+-- ---- the canonical form
 
-pub oriented-means : (order : List ℕ) (atom : Atom) (outcome : Outcome) → ComesTo order atom outcome → Means (oriented (gathered order atom)).form (oriented (gathered order atom)).op (oriented (gathered order atom)).constant outcome
-oriented-means order atom outcome comes =
+pub canonical_form-means : (order : List ℕ) (atom : Atom) (form : AtomForm) → canonical_form order atom ≡ form
+    → Means (oriented (gathered order atom)).form (oriented (gathered order atom)).op
+    (oriented (gathered order atom)).constant form
+unfolding canonical_form
+canonical_form-means order atom form is =
     let a = oriented (gathered order atom) in
-    outcome-means a.form a.op a.constant outcome (nonzero-oriented order atom) comes
+    subst (Means a.form a.op a.constant) is (primitive-means a.form a.op a.constant (nonzero-oriented order atom))
 
--- an atom that says the same as a canonical one
-pub says-holds : (order : List ℕ) (atom : Atom) (a : PlainKeyAtom) → AllPairs ◌≢◌ order → ((v : ℕ) → Names atom v → Contains order v) → ComesTo order atom (says a) → (values : List ℤ) → AtomHolds atom values ↔ KeyAtomHolds a (point_of order values)
-says-holds order atom a distinct named comes values =
+-- an atom whose canonical form is a canonical atom
+pub key_atom-holds : (order : List ℕ) (atom : Atom) (a : PlainKeyAtom) → AllPairs ◌≢◌ order
+    → ((v : ℕ) → Names atom v → Contains order v) → canonical_form order atom ≡ KeyAtom a
+    → (values : List ℤ) → AtomHolds atom values ↔ KeyAtomHolds a (point_of order values)
+key_atom-holds order atom a distinct named is values =
     let point = point_of order values in
-    let turn = passes-tells a.op a.constant (form_value a.form point) in
-    and_then (oriented-holds order atom values distinct named) (and_then (oriented-means order atom (says a) comes point) (turn.1, turn.0))
+    let turn = Decides-passes a.op a.constant (form_value a.form point) in
+    and_then (oriented-holds order atom values distinct named)
+    (and_then (canonical_form-means order atom (KeyAtom a) is point) (turn.1, turn.0))
 
-pub always-holds : (order : List ℕ) (atom : Atom) → AllPairs ◌≢◌ order → ((v : ℕ) → Names atom v → Contains order v) → ComesTo order atom always → (values : List ℤ) → AtomHolds atom values
-always-holds order atom distinct named comes values =
-    (oriented-holds order atom values distinct named).1 (oriented-means order atom always comes (point_of order values))
+-- one whose canonical form is True
+pub true-holds : (order : List ℕ) (atom : Atom) → AllPairs ◌≢◌ order → ((v : ℕ) → Names atom v → Contains order v)
+    → canonical_form order atom ≡ True → (values : List ℤ) → AtomHolds atom values
+true-holds order atom distinct named is values =
+    (oriented-holds order atom values distinct named).1
+    (canonical_form-means order atom True is (point_of order values))
 
-pub never-is-never : (order : List ℕ) (atom : Atom) → AllPairs ◌≢◌ order → ((v : ℕ) → Names atom v → Contains order v) → ComesTo order atom never → IsNever atom
-never-is-never order atom distinct named comes values holds =
-    oriented-means order atom never comes (point_of order values) ((oriented-holds order atom values distinct named).0 holds)
+-- one whose canonical form is False
+pub false-is_false : (order : List ℕ) (atom : Atom) → AllPairs ◌≢◌ order → ((v : ℕ) → Names atom v → Contains order v)
+    → canonical_form order atom ≡ False → IsFalse atom
+false-is_false order atom distinct named is values holds =
+    let point = point_of order values in
+    canonical_form-means order atom False is point ((oriented-holds order atom values distinct named).0 holds)

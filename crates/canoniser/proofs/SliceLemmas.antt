@@ -23,7 +23,8 @@ pub record IsWithin (c : PlainCondition) (s : PlainSlice) : Type 0 where
 IsWithin-class : (c : PlainCondition) (var : ℕ) (s : PlainSlice) → IsSliceOf c var s → IsWithin c s
 IsWithin-class c var s is = record {
   ascending = is.atoms.ascending;
-  atoms = λ j has. let named = (is.atoms.just j).0 has in within_from_IsSomeAnd c.atoms (λ atom. Names atom named.0) j named.2;
+  atoms = λ j has. let named =
+      (is.atoms.just j).0 has in within_from_IsSomeAnd c.atoms (λ atom. Names atom named.0) j named.2;
   vars = λ v has. ((is.vars.just v).0 has).0;
 }
 
@@ -39,7 +40,8 @@ pub only : (slice s : PlainSlice) (k : ℕ) → k < length (slice ∷ []) → ge
 only slice s zero lt is = is
 only slice s (suc k) lt is = absurd (omega arith)
 
-IsWithin-front : (c : PlainCondition) (front : List PlainSlice) (s : PlainSlice) → IsFront (NamesNothingAt c.atoms) front → Contains front s → IsWithin c s
+IsWithin-front : (c : PlainCondition) (front : List PlainSlice) (s : PlainSlice)
+    → IsFront (NamesNothingAt c.atoms) front → Contains front s → IsWithin c s
 IsWithin-front c [] s is has = absurd (omega (arith, has.1))
 IsWithin-front c (slice ∷ []) s is has = subst (IsWithin c) (only slice s has.0 has.1 has.2) (IsWithin-free c slice is)
 IsWithin-front c (slice ∷ another ∷ more) s is has = absurd is
@@ -50,7 +52,8 @@ IsWithin-slice c s one =
     let has : Contains (all.front ++ all.classes) s = rw all.joined at one.one in
     elim (Contains-append_cases all.front all.classes s has) [
       | inl in_front ↦ IsWithin-front c all.front s all.variable_free in_front
-      | inr in_classes ↦ IsWithin-class c (least s) s (All-contains (λ slice. IsSliceOf c (least slice) slice) all.classes s all.linked.each in_classes)
+      | inr in_classes ↦ IsWithin-class c (least s) s
+          (All-contains (λ slice. IsSliceOf c (least slice) slice) all.classes s all.linked.each in_classes)
     ]
 
 -- a number at a place of an ascending list is at least the place
@@ -79,5 +82,7 @@ few_atoms c s fits one =
     omega arith
 
 -- a slice has what its atoms name
-pub HasNamed-slice : SlicesPartition → (c : PlainCondition) (s : PlainSlice) → NamesDeclared c → IsSliceIn c s → HasNamed c s
-HasNamed-slice parts c s declared one = All-contains (HasNamed c) one.slices s (parts c one.slices declared one.all).named one.one
+pub HasNamed-slice : SlicesPartition → (c : PlainCondition) (s : PlainSlice) → NamesDeclared c → IsSliceIn c s
+    → HasNamed c s
+HasNamed-slice parts c s declared one =
+    All-contains (HasNamed c) one.slices s (parts c one.slices declared one.all).named one.one

@@ -1,5 +1,6 @@
 -- An atom with its variables gathered on the left and its constants on the right.
-use Rattle.std.specs.Prelude.{ℕ, ℤ, pos, ◌+ℤ◌, ◌-ℤ◌, Bool, false, if◌then◌else◌, ◌==◌, Option, Some, None, is_some, List, [], ◌∷◌}
+use Rattle.std.specs.Prelude.{ℕ, ℤ, pos, ◌+ℤ◌, ◌-ℤ◌, Bool, false, if◌then◌else◌, ◌==◌, Option, Some, None, is_some}
+use Rattle.std.specs.Prelude.{List, [], ◌∷◌}
 use Rattle.lin_model.specs.Terms.{PlainTerm}
 use Rattle.lin_model.specs.declared.atom.Atom.{Atom}
 use Rattle.lin_model.specs.declared.atom.Cmp.{Cmp}
@@ -22,7 +23,8 @@ abbrev pub constants_of : List PlainTerm → ℤ
 constants_of [] = pos 0
 constants_of (t ∷ ts) = (if is_some t.var then pos 0 else t.factor) +ℤ constants_of ts
 
--- the coefficient of the variable v, and the constant, once all variables stand on the left and all constants on the right
+-- the coefficient of the variable v, and the constant, once all variables stand on the left and all constants on the
+-- right
 abbrev pub coefficient : Atom → ℕ → ℤ
 coefficient atom v = factor_on v atom.left -ℤ factor_on v atom.right
 

@@ -3,13 +3,13 @@ pub mod Numbering
 pub mod Forms
 pub mod Tables
 pub mod Limits
-pub mod Meaning
 pub mod Keys
 pub mod Parts
 pub mod Strongest
 pub mod Solutions
-pub mod Said
+pub mod SliceForms
 pub mod Answers
 pub mod OneKey
 pub mod Factors
 pub mod Laws
+pub mod Facts

@@ -15,7 +15,8 @@ first_ones (v ∷ vs) = v ∷ filter (λ w. not (w == v)) (first_ones vs)
 abbrev pub atoms_of : PlainCondition → PlainSlice → List Atom
 atoms_of c s = filter_map (λ j. slice_get c.atoms j) s.atoms
 
--- the variables of a slice in the order in which its atoms, each read from left to right, name them first, and the variable of a slice without atoms; a variable's place in this list is its number in the key
+-- the variables of a slice in the order in which its atoms, each read from left to right, name them first, and the
+-- variable of a slice without atoms; a variable's place in this list is its number in the key
 abbrev pub order_of : PlainCondition → PlainSlice → List ℕ
 order_of c s = first_ones (flat_map atom_vars (atoms_of c s) ++ s.vars)
 

@@ -8,7 +8,7 @@ use Rattle.canoniser.specs.declared.canonical.Canonical.{Canonical}
 use Rattle.canoniser.specs.declared.canonical.Canonical.TheVariants.{False, Key}
 use Rattle.canoniser.specs.Answers.{Canonises}
 use Rattle.canoniser.specs.Keys.{IsSliceIn, IsKeyOf}
-use Rattle.canoniser.specs.Solutions.{IsFirstNever}
+use Rattle.canoniser.specs.Solutions.{IsFirstFalse}
 
 -- the limits of the types that hold a key and the way back
 pub record AreWithinLimits (atoms : List PlainKeyAtom) (order : List ℕ) : Type 0 where
@@ -37,7 +37,7 @@ EachHasCanonical = (c : PlainCondition) (s : PlainSlice) → IsCondition c → I
 pub record HasOneCanonical (c : PlainCondition) (s : PlainSlice) : Type 0 where
   pub one : (canonical other : Canonical) → Canonises c s canonical → Canonises c s other → canonical ≡ other
   pub one_key : (key other : List PlainKeyAtom) → IsKeyOf c s key → IsKeyOf c s other → key ≡ other
-  pub not_both : (key : List PlainKeyAtom) (j : ℕ) → IsKeyOf c s key → ¬ IsFirstNever c s j
+  pub not_both : (key : List PlainKeyAtom) (j : ℕ) → IsKeyOf c s key → ¬ IsFirstFalse c s j
 
 -- each slice comes to one thing alone
 abbrev pub KeysAreUnique : Type 0

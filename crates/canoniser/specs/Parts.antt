@@ -12,8 +12,12 @@ pub record IsPartOf (part whole : List PlainKeyAtom) : Type 0 where
 
 -- atoms of one form stand beside one another: what stands between two of them has their form
 abbrev pub StandTogether : List PlainKeyAtom → Type 0
-StandTogether atoms = (i j k : ℕ) (d : PlainKeyAtom) → i < j → j < k → k < length atoms → (slice_index_or atoms i d).form ≡ (slice_index_or atoms k d).form → (slice_index_or atoms j d).form ≡ (slice_index_or atoms k d).form
+StandTogether atoms = (i j k : ℕ) (d : PlainKeyAtom) → i < j → j < k → k < length atoms
+    → (slice_index_or atoms i d).form ≡ (slice_index_or atoms k d).form
+    → (slice_index_or atoms j d).form ≡ (slice_index_or atoms k d).form
 
 -- the atoms of this form stand at the end: what stands behind one of them has the form too
 abbrev pub StandAtEnd : List FormTerm → List PlainKeyAtom → Type 0
-StandAtEnd form atoms = (i j : ℕ) (d : PlainKeyAtom) → i < j → j < length atoms → (slice_index_or atoms i d).form ≡ form → (slice_index_or atoms j d).form ≡ form
+StandAtEnd form atoms =
+    (i j : ℕ) (d : PlainKeyAtom) → i < j → j < length atoms → (slice_index_or atoms i d).form ≡ form
+    → (slice_index_or atoms j d).form ≡ form

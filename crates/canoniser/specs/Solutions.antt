@@ -13,17 +13,22 @@ use Rattle.canoniser.specs.Numbering.{atoms_of, order_of}
 use Rattle.canoniser.specs.Keys.{IsKeyOf}
 
 -- no integers satisfy the atom
-abbrev pub IsNever : Atom → Type 0
-IsNever atom = (values : List ℤ) → ¬ AtomHolds atom values
+abbrev pub IsFalse : Atom → Type 0
+IsFalse atom = (values : List ℤ) → ¬ AtomHolds atom values
 
-abbrev pub IsNeverAt : PlainCondition → ℕ → Type 0
-IsNeverAt c j = IsSomeAnd (slice_get c.atoms j) IsNever
+-- there is an atom of this number, and no integers satisfy it
+abbrev pub IsFalseAt : PlainCondition → ℕ → Type 0
+IsFalseAt c j = IsSomeAnd (slice_get c.atoms j) IsFalse
+
+-- none of the numbers is that of an atom that no integers satisfy
+abbrev pub NoneIsFalseAmong : PlainCondition → List ℕ → Type 0
+NoneIsFalseAmong c numbers = (j : ℕ) → Contains numbers j → ¬ IsFalseAt c j
 
 -- the slice has this atom, no integers satisfy it, and some satisfy each that comes before it
-pub record IsFirstNever (c : PlainCondition) (s : PlainSlice) (j : ℕ) : Type 0 where
+pub record IsFirstFalse (c : PlainCondition) (s : PlainSlice) (j : ℕ) : Type 0 where
   pub in_slice : Contains s.atoms j
-  pub never : IsNeverAt c j
-  pub first : (i : ℕ) → Contains s.atoms i → i < j → ¬ IsNeverAt c i
+  pub is_false : IsFalseAt c j
+  pub first : (i : ℕ) → Contains s.atoms i → i < j → ¬ IsFalseAt c i
 
 -- the values of the slice's variables, in the order of their numbers in the key
 abbrev pub point_of : List ℕ → List ℤ → List ℤ
@@ -35,7 +40,8 @@ SliceHolds c s values = All (λ atom. AtomHolds atom values) (atoms_of c s)
 
 -- at an assignment the atoms of the slice hold where the key holds at its point, and nowhere else
 abbrev pub HaveSameSolutions : PlainCondition → PlainSlice → List ℕ → List PlainKeyAtom → Type 0
-HaveSameSolutions c s order key = (values : List ℤ) → IsAssignment c.vars values → SliceHolds c s values ↔ KeyHolds key (point_of order values)
+HaveSameSolutions c s order key =
+    (values : List ℤ) → IsAssignment c.vars values → SliceHolds c s values ↔ KeyHolds key (point_of order values)
 
 -- a point that satisfies the key lies within the bounds of the slice's variables
 abbrev pub KeepsBounds : PlainCondition → List ℕ → List PlainKeyAtom → Type 0
@@ -44,7 +50,7 @@ KeepsBounds c order key = (point : List ℤ) → KeyHolds key point → (v : ℕ
 
 -- the slice has this key, and these are its variables in the order of their numbers
 pub record IsCanonised (c : PlainCondition) (s : PlainSlice) (order : List ℕ) (key : List PlainKeyAtom) : Type 0 where
-  pub possible : (j : ℕ) → Contains s.atoms j → ¬ IsNeverAt c j
+  pub none_false : NoneIsFalseAmong c s.atoms
   pub numbered : order ≡ order_of c s
   pub vars : (v : ℕ) → Contains order v ↔ Contains s.vars v
   pub is_key : IsKeyOf c s key

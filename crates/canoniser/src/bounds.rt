@@ -1,5 +1,6 @@
 //! The bounds of a slice's variables, as canonical atoms.
-ghost use Rattle.std.specs.Prelude.{◌≡◌, ◌+◌, ◌*◌, ◌^◌, ◌<◌, ◌≤◌, ◌↔◌, length, unsigned_abs, All, IfOk, OnOk, Contains, List, [], ◌∷◌, ◌++◌};
+ghost use Rattle.std.specs.Prelude.{◌≡◌, ◌+◌, ◌*◌, ◌^◌, ◌<◌, ◌≤◌, ◌↔◌, length, unsigned_abs, All, IfOk, OnOk, Contains};
+ghost use Rattle.std.specs.Prelude.{List, [], ◌∷◌, ◌++◌};
 ghost use Rattle.lin_model.specs.KeyAtom.{PlainKeyAtom};
 ghost use Rattle.lin_model.specs.Bounded.{variable};
 ghost use Rattle.lin_model.specs.Terms.{VarFits};

@@ -8,7 +8,7 @@ use crate::back::Back;
 use crate::bounds::bounds_of;
 use crate::canonical::Canonical;
 use crate::numbering::order_of;
-use crate::said::{Said, said_of};
+use crate::slice_forms::{SliceForms, forms_of};
 use crate::strongest::strongest;
 use atom_implies::table_is_right;
 use lin_model::{Condition, Key, KeyAtom};
@@ -25,9 +25,9 @@ pub fn canonise(alloc: Global, c: &Condition, s: &Slice) -> Result<Canonical, No
     table_is_right();
     slices_are_a_partition();
     let order = order_of(alloc, c, s)?;
-    match said_of(alloc, c, s, &order)? {
-        Said::Never(j) => Ok(Canonical::False(j)),
-        Said::Possible(atoms) => {
+    match forms_of(alloc, c, s, &order)? {
+        SliceForms::False(j) => Ok(Canonical::False(j)),
+        SliceForms::Atoms(atoms) => {
             let key = key_of(alloc, c, &order, atoms)?;
             let back = Back::new(order);
             Ok(Canonical::Key { key, back })

@@ -1,5 +1,6 @@
 //! Atoms with their variables on the left and their constants on the right.
-ghost use Rattle.std.specs.Prelude.{◌≡◌, pos, ◌-ℤ◌, neg_ℤ, ◌^◌, ◌<◌, ◌≤◌, length, unsigned_abs, All, IfOk, OnOk, map, [], ◌∷◌, ◌++◌, if◌then◌else◌};
+ghost use Rattle.std.specs.Prelude.{◌≡◌, pos, ◌-ℤ◌, neg_ℤ, ◌^◌, ◌<◌, ◌≤◌, length, unsigned_abs, All, IfOk, OnOk, map};
+ghost use Rattle.std.specs.Prelude.{[], ◌∷◌, ◌++◌, if◌then◌else◌};
 ghost use Rattle.std.specs.Ordering.{int_eq};
 ghost use Rattle.lin_model.specs.declared.atom.Atom.{Atom as AnyAtom};
 ghost use Rattle.lin_model.specs.Conditions.{AtomNamesBelow};

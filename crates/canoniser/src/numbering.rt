@@ -3,7 +3,7 @@ ghost use Rattle.std.specs.Prelude.{◌≡◌, ℕ, IfOk, OnOk, [], ◌∷◌};
 ghost use Rattle.std.specs.List.{cons_option, filter_map, flat_map, slice_get};
 ghost use Rattle.slicer.specs.Names.{atom_vars, side_vars};
 ghost use Rattle.canoniser.specs.Keys.{IsSliceIn};
-ghost use Rattle.canoniser.specs.Numbering.{order_of, Gains};
+ghost use Rattle.canoniser.specs.Numbering.{first_ones, order_of, Gains};
 
 use lin_model::{Atom, Condition, Term};
 use outside::NoMemory;
@@ -19,6 +19,15 @@ pub(crate) fn order_of(alloc: Global, c: &Condition, s: &Slice) -> Result<Vec<u3
     let mut order = Vec::new(alloc);
     add_atoms(&mut order, c.atoms(), s.atoms())?;
     add_all(&mut order, s.vars())?;
+    Ok(order)
+}
+
+/// The variables that one atom names, in the order in which it names them first.
+pub(crate) fn order_in(alloc: Global, atom: &Atom) -> Result<Vec<u32>, NoMemory>
+    ensures { IfOk result (λ order. order.items ≡ first_ones (atom_vars atom.now)) }
+{
+    let mut order = Vec::new(alloc);
+    add_atom(&mut order, atom)?;
     Ok(order)
 }
 

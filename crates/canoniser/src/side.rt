@@ -1,5 +1,6 @@
 //! What the terms of a side come to.
-ghost use Rattle.std.specs.Prelude.{◌≡◌, ℕ, pos, ◌+ℤ◌, ◌^◌, ◌<◌, ◌≤◌, length, unsigned_abs, All, IfSome, if◌then◌else◌, is_some};
+ghost use Rattle.std.specs.Prelude.{◌≡◌, ℕ, pos, ◌+ℤ◌, ◌^◌, ◌<◌, ◌≤◌, length, unsigned_abs, All, IfSome, if◌then◌else◌};
+ghost use Rattle.std.specs.Prelude.{is_some};
 ghost use Rattle.lin_model.specs.Terms.{TermFits};
 ghost use Rattle.lin_model.specs.Conditions.{NamesBelow};
 ghost use Rattle.canoniser.specs.Gathered.{is_on, constants_of};

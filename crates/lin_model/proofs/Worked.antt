@@ -1,12 +1,9 @@
 -- The definitions on small worked values, as the checker computes them.
 use Rattle.std.proofs.Common.{◌≡◌, ℕ, zero, suc, ◌<◌, ℤ, pos, negsuc, true, false, Some, None, List, [], ◌∷◌, codes}
-use Rattle.std.proofs.Common.{get_or, unsigned_abs, inr, refl, arith}
+use Rattle.std.proofs.Common.{get_or, inr, refl, arith}
 use Rattle.std.specs.declared.cmp.Ordering.TheVariants.{Less, Equal}
-use Rattle.std.specs.Int.{◌∣◌}
 use Rattle.std.specs.List.{Any}
 use Rattle.std.proofs.lemmas.Int.{ints}
-use Rattle.std.proofs.lemmas.Nat.Gcd.{dvd_refl, le_of_dvd}
-use Rattle.std.proofs.lemmas.List.Elements.{All-nil, All-cons}
 use Rattle.lin_model.specs.declared.atom.Atom.{Atom}
 use Rattle.lin_model.specs.declared.atom.Cmp.TheVariants.{Lt}
 use Rattle.lin_model.specs.declared.form.FormTerm.{FormTerm}
@@ -17,7 +14,7 @@ use Rattle.lin_model.specs.Terms.{PlainVar, PlainTerm, value_of}
 use Rattle.lin_model.specs.Truth.{AtomHolds, InBounds, IsAssignment}
 use Rattle.lin_model.specs.Conditions.{Fits}
 use Rattle.lin_model.specs.Test.{passes}
-use Rattle.lin_model.specs.Form.{form_value}
+use Rattle.lin_model.specs.Form.{form_value, gcd_within, gcd, divisor}
 use Rattle.lin_model.specs.Quotients.{floor_div, ceil_div}
 use Rattle.lin_model.specs.KeyAtom.{PlainKeyAtom, IsCanonicalForm}
 use Rattle.lin_model.specs.AtomOrder.{compare_atoms}
@@ -121,10 +118,21 @@ check_turned_round h = absurd (omega (arith, h.variables.ascend 0 (term 0 (pos 0
 
 -- `2*v0` neither: 2 divides it
 check_divided : ¬ IsCanonicalForm (term 0 (pos 2) ∷ [])
-check_divided h =
-    let two = h.gcd_is_one.greatest 2 (All-cons (λ t. 2 ∣ unsigned_abs t.coef) (term 0 (pos 2)) [] (dvd_refl 2)
-    (All-nil (λ t. 2 ∣ unsigned_abs t.coef))) in
-    absurd (omega (arith, le_of_dvd (omega arith) two))
+unfolding divisor gcd gcd_within
+check_divided h = absurd (omega (arith, h.gcd_is_one))
+
+-- the divisor of `12*v0 - 18*v1`, of no terms, and of terms without a coefficient
+check_divisor : divisor (term 0 (pos 12) ∷ term 1 (negsuc 17) ∷ []) ≡ 6
+unfolding divisor gcd gcd_within
+check_divisor = refl
+
+check_no_divisor : divisor [] ≡ 0
+unfolding divisor
+check_no_divisor = refl
+
+check_divisor_of_zero : divisor (term 0 (pos 0) ∷ []) ≡ 0
+unfolding divisor gcd gcd_within
+check_divisor_of_zero = refl
 
 -- ---- the order of atoms
 

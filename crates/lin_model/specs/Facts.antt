@@ -1,14 +1,23 @@
 -- What follows from the definitions of conditions, forms and keys: for the proofs of the crates above.
-use Rattle.std.proofs.Common.{◌≡◌, ℕ, suc, ◌<◌, ◌≤◌, max, List, [], ◌∷◌, get_or, Option, Some, None, IfSome, arith}
+use Rattle.std.proofs.Common.{◌≡◌, ℤ, ℕ, zero, suc, ◌%◌, ◌<◌, ◌≤◌, max, List, [], ◌∷◌, get_or, Option, Some, None}
+use Rattle.std.proofs.Common.{IfSome, unsigned_abs, refl, arith}
+use Rattle.std.specs.Bool.{Decides}
+use Rattle.std.specs.Int.{IsGcd, ◌∣◌}
+use Rattle.std.specs.Ordering.{int_eq}
 use Rattle.std.specs.List.{All}
-use Rattle.std.proofs.lemmas.Nat.Gcd.{dvd_antisymm, dvd-zero}
-use Rattle.std.proofs.lemmas.List.Elements.{All-nil, All-cons, All-weaker}
+use Rattle.std.proofs.lemmas.Nat.Gcd.{dvd_antisymm, dvd-zero, dvd_trans, IsGcd-from_zero, IsGcd-from_mod}
+use Rattle.std.proofs.lemmas.Bool.Decides.{Decides-int_eq, Decides-not}
+use Rattle.std.proofs.lemmas.List.Elements.{All-nil, All-cons, All-head, All-tail, All-weaker}
 use Rattle.lin_model.specs.declared.atom.Atom.{Atom}
 use Rattle.lin_model.specs.declared.form.FormTerm.{FormTerm}
 use Rattle.lin_model.specs.declared.key_atom.TheConstants.{MAX_KEY_VARS}
+use Rattle.lin_model.specs.declared.op.Op.{Op}
+use Rattle.lin_model.specs.declared.op.Op.TheVariants.{Le, Ge, Eq, Ne}
+use Rattle.lin_model.specs.Integers.{Decides-int_le}
 use Rattle.lin_model.specs.Terms.{PlainTerm}
+use Rattle.lin_model.specs.Test.{passes, Passes}
 use Rattle.lin_model.specs.Conditions.{NamesBelow, AtomNamesBelow}
-use Rattle.lin_model.specs.Form.{IsGcdOf, form_width}
+use Rattle.lin_model.specs.Form.{gcd_within, gcd, divisor, IsGcdOf, form_width}
 use Rattle.lin_model.specs.KeyAtom.{PlainKeyAtom, IsCanonical}
 use Rattle.lin_model.specs.Key.{IsKey, key_width}
 
@@ -25,7 +34,11 @@ NamesBelow-larger n m le terms below k d within = IfSome-larger n m le (get_or t
 
 -- atoms
 pub AtomNamesBelow-larger : (n m : ℕ) → n ≤ m → (atom : Atom) → AtomNamesBelow n atom → AtomNamesBelow m atom
-AtomNamesBelow-larger n m le atom below = record { left = NamesBelow-larger n m le atom.left below.left; right = NamesBelow-larger n m le atom.right below.right }
+AtomNamesBelow-larger n m le atom below = record {
+  left = NamesBelow-larger n m le atom.left below.left;
+  right =
+      NamesBelow-larger n m le atom.right below.right;
+}
 
 -- ---- the divisor of a form
 
@@ -33,9 +46,54 @@ AtomNamesBelow-larger n m le atom below = record { left = NamesBelow-larger n m 
 pub IsGcdOf-none : IsGcdOf [] 0
 IsGcdOf-none = record { divides = λ k d lt. absurd (omega arith); greatest = λ d _. dvd-zero d }
 
--- there is one alone
-pub same_from_IsGcdOf : (form : List FormTerm) (g h : ℕ) → IsGcdOf form g → IsGcdOf form h → g ≡ h
-same_from_IsGcdOf form g h a b = dvd_antisymm (b.greatest g a.divides) (a.greatest h b.divides)
+-- of one more term
+IsGcdOf-cons : (t : FormTerm) (ts : List FormTerm) (g h : ℕ) → IsGcdOf ts g → IsGcd (unsigned_abs t.coef) g h
+    → IsGcdOf (t ∷ ts) h
+IsGcdOf-cons t ts g h rest two = record {
+  divides =
+      All-cons (λ u. h ∣ unsigned_abs u.coef) t ts two.0
+      (All-weaker (λ u. g ∣ unsigned_abs u.coef) (λ u. h ∣ unsigned_abs u.coef)
+      (λ u. dvd_trans h two.1) ts rest.divides);
+  greatest = λ d all.
+      two.2 d (All-head (λ u. d ∣ unsigned_abs u.coef) t ts all)
+      (rest.greatest d (All-tail (λ u. d ∣ unsigned_abs u.coef) t ts all));
+}
+
+-- Euclid's walk with enough steps ends at the greatest common divisor of two numbers
+IsGcd-gcd_within : (steps a b : ℕ) → b ≤ steps → IsGcd a b (gcd_within steps a b)
+unfolding gcd_within
+IsGcd-gcd_within steps a zero few = IsGcd-from_zero a zero refl
+IsGcd-gcd_within zero a (suc b) few = absurd (omega arith)
+IsGcd-gcd_within (suc steps) a (suc b) few =
+    let less : a % suc b < suc b = omega arith in
+    IsGcd-from_mod a (suc b) _ (IsGcd-gcd_within steps (suc b) (a % suc b) (omega arith))
+
+-- of two numbers it is the greatest common divisor
+pub IsGcd-gcd : (a b : ℕ) → IsGcd a b (gcd a b)
+unfolding gcd
+IsGcd-gcd a b = IsGcd-gcd_within b a b (omega arith)
+
+-- the divisor of a form is the greatest common divisor of its coefficients
+pub IsGcdOf-divisor : (form : List FormTerm) → IsGcdOf form (divisor form)
+unfolding divisor
+IsGcdOf-divisor [] = IsGcdOf-none
+IsGcdOf-divisor (t ∷ ts) =
+    IsGcdOf-cons t ts (divisor ts) _ (IsGcdOf-divisor ts) (IsGcd-gcd (unsigned_abs t.coef) (divisor ts))
+
+-- and nothing else is
+pub divisor_from_IsGcdOf : (form : List FormTerm) (g : ℕ) → IsGcdOf form g → g ≡ divisor form
+divisor_from_IsGcdOf form g is =
+    let own = IsGcdOf-divisor form in
+    dvd_antisymm (own.greatest g is.divides) (is.greatest (divisor form) own.divides)
+
+-- ---- the tests of canonical atoms
+
+-- a test says what its op means
+pub Decides-passes : (op : Op) (c n : ℤ) → Decides (passes op c n) (Passes op c n)
+Decides-passes Le c n = Decides-int_le n c
+Decides-passes Ge c n = Decides-int_le c n
+Decides-passes Eq c n = Decides-int_eq n c
+Decides-passes Ne c n = Decides-not (int_eq n c) (Decides-int_eq n c)
 
 -- ---- the width of a key
 

@@ -1,5 +1,5 @@
 -- Linear forms: what they are worth at a point, and the divisors of their coefficients.
-use Rattle.std.specs.Prelude.{ℕ, suc, max, ℤ, pos, ◌+ℤ◌, ◌*ℤ◌, List, [], ◌∷◌, unsigned_abs, slice_index_or}
+use Rattle.std.specs.Prelude.{ℕ, zero, suc, ◌%◌, max, ℤ, pos, ◌+ℤ◌, ◌*ℤ◌, List, [], ◌∷◌, unsigned_abs, slice_index_or}
 use Rattle.std.specs.Int.{◌∣◌}
 use Rattle.std.specs.List.{All}
 use Rattle.lin_model.specs.declared.form.FormTerm.{FormTerm}
@@ -17,6 +17,21 @@ form_value (t ∷ ts) point = (t.coef *ℤ value_at point t.var) +ℤ form_value
 abbrev pub form_width : List FormTerm → ℕ
 form_width [] = 0
 form_width (t ∷ ts) = max (suc t.var) (form_width ts)
+
+-- Euclid's walk of a and b: each number gives way to a remainder, in at most this many steps
+unfoldable pub gcd_within : ℕ → ℕ → ℕ → ℕ
+gcd_within steps a zero = a
+gcd_within zero a (suc b) = a
+gcd_within (suc steps) a (suc b) = gcd_within steps (suc b) (a % suc b)
+
+-- the greatest common divisor of two numbers; the remainders fall, so b steps are enough
+unfoldable pub gcd : ℕ → ℕ → ℕ
+gcd a b = gcd_within b a b
+
+-- the greatest common divisor of the coefficients, 0 where there are none or all are 0
+unfoldable pub divisor : List FormTerm → ℕ
+divisor [] = 0
+divisor (t ∷ ts) = gcd (unsigned_abs t.coef) (divisor ts)
 
 -- d divides each coefficient
 abbrev pub DividesAll : ℕ → List FormTerm → Type 0

@@ -1,6 +1,8 @@
--- Laws of products of integers, and that a factor keeps the order or turns it. They say nothing of this crate: the
--- proofs of crates above use them.
+-- Laws of products of integers, that a factor keeps the order or turns it, and what tests of order say. They say
+-- nothing of this crate: the proofs of crates above use them.
 use Rattle.std.proofs.Common.{◌≡◌, ℕ, suc, ◌*◌, ℤ, pos, negsuc, ◌+ℤ◌, ◌*ℤ◌, ◌≤ℤ◌, arith, ap}
+use Rattle.std.specs.Prelude.{◌<ℤ◌, int_le, int_lt}
+use Rattle.std.specs.Bool.{Decides}
 use Rattle.std.proofs.Math.Nat.{mul-le-mul_left}
 use Rattle.std.proofs.lemmas.Int.{ints}
 use borrow.Author.Differences.{up, down, sum_is_lem, product_is, le_out}
@@ -38,3 +40,10 @@ scale_up n x y h = omega (arith, ints, mul-le-mul_left n (le_out x y h))
 -- a negative one turns it
 pub scale_down : (n : ℕ) (x y : ℤ) → x ≤ℤ y → (negsuc n *ℤ y) ≤ℤ (negsuc n *ℤ x)
 scale_down n x y h = omega (arith, ints, mul-le-mul_left (suc n) (le_out x y h))
+
+-- tests of order
+pub Decides-int_le : (a b : ℤ) → Decides (int_le a b) (a ≤ℤ b)
+Decides-int_le a b = (λ so. grind (arith, ints), λ le. grind (arith, ints))
+
+pub Decides-int_lt : (a b : ℤ) → Decides (int_lt a b) (a <ℤ b)
+Decides-int_lt a b = (λ so. grind (arith, ints), λ lt. grind (arith, ints))

@@ -1,10 +1,10 @@
 -- Canonical atoms `form op constant`, and where they hold.
-use Rattle.std.specs.Prelude.{◌≢◌, ◌<◌, ◌≤◌, ℤ, pos, ◌<ℤ◌, List, length, unsigned_abs, IsTrue, slice_index_or}
+use Rattle.std.specs.Prelude.{◌≡◌, ◌≢◌, ◌<◌, ◌≤◌, ℤ, pos, ◌<ℤ◌, List, length, unsigned_abs, IsTrue, slice_index_or}
 use Rattle.std.specs.List.{All, AllAdjacentBelow}
 use Rattle.lin_model.specs.declared.form.FormTerm.{FormTerm}
 use Rattle.lin_model.specs.declared.op.Op.{Op}
 use Rattle.lin_model.specs.declared.key_atom.TheConstants.{MAX_KEY_VARS, COEF_LIMIT, CONSTANT_LIMIT}
-use Rattle.lin_model.specs.Form.{form_value, IsGcdOf}
+use Rattle.lin_model.specs.Form.{form_value, divisor}
 use Rattle.lin_model.specs.Test.{passes}
 
 -- the parts of an atom
@@ -34,7 +34,7 @@ pub record IsCanonicalForm (form : List FormTerm) : Type 0 where
   pub variables : AscendsBelow64 form
   pub coefficients : HasSmallCoefficients form
   pub begins_positive : BeginsPositive form
-  pub gcd_is_one : IsGcdOf form 1
+  pub gcd_is_one : divisor form ≡ 1
 
 -- the one spelling of an atom among those with the same solutions
 pub record IsCanonical (a : PlainKeyAtom) : Type 0 where

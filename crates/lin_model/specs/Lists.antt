@@ -1,10 +1,12 @@
 -- Facts on lists and on values that may be missing, whatever they hold. They say nothing of this crate: the proofs of
 -- several crates use them.
-use Rattle.std.proofs.Common.{◌≡◌, ℕ, zero, suc, ◌+◌, ◌<◌, Bool, true, false, cond, Option, Some, None, List, [], ◌∷◌}
-use Rattle.std.proofs.Common.{◌++◌, length, drop, get_or, slice_get, ◌⊎◌, inl, inr, refl, sym, ap, subst, ◌∙◌, arith}
+use Rattle.std.proofs.Common.{◌≡◌, ℕ, zero, suc, ◌+◌, ◌<◌, ◌≤◌, Bool, true, false, cond, Option, Some, None, List, []}
+use Rattle.std.proofs.Common.{◌∷◌, ◌++◌, length, drop, get_or, slice_get, ◌⊎◌, inl, inr, refl, sym, ap, subst, ◌∙◌}
+use Rattle.std.proofs.Common.{arith}
 use Rattle.std.specs.Prelude.{Contains, IsTrue, ◌↔◌}
-use Rattle.std.specs.List.{All, AllZip}
+use Rattle.std.specs.List.{All, AllZip, filter_map, cons_option}
 use Rattle.std.specs.Option.{IsSomeAnd}
+use Rattle.std.proofs.Math.Nat.{eq-or-lt_of_le}
 use Rattle.std.proofs.Math.Seq.{drop-append_seam}
 use Rattle.std.proofs.lemmas.List.{drop-drop}
 use Rattle.std.proofs.lemmas.List.Elements.{All-head, All-tail}
@@ -32,6 +34,59 @@ nothing_in_nil n has = omega (arith, has.1)
 pub nil_from_none : {X : Type 0} (xs : List X) → ((x : X) → ¬ Contains xs x) → xs ≡ []
 nil_from_none [] none = refl
 nil_from_none (x ∷ xs) none = absurd (none x (Contains-first x xs))
+
+-- ---- what is given of the elements of a list
+
+-- some element gives it
+pub record Given {X Y : Type 0} (h : X → Option Y) (xs : List X) (y : Y) : Type 0 where
+  pub element : X
+  pub among : Contains xs element
+  pub gives : h element ≡ Some y
+
+one_given : {X Y : Type 0} (h : X → Option Y) (x : X) (xs : List X) (y : Y) (o : Option Y) → h x ≡ o
+    → (Contains (filter_map h xs) y → Given h xs y) → Contains (cons_option o (filter_map h xs)) y
+    → Given h (x ∷ xs) y
+one_given h x xs y None is rest has =
+    let later = rest has in
+    record { element = later.element; among = Contains-later x xs later.element later.among; gives = later.gives }
+one_given h x xs y (Some z) is rest has =
+    elim (Contains-cases z (filter_map h xs) y has) [
+      | inl same ↦ record { element = x; among = Contains-first x xs; gives = is ∙ ap Some same }
+      | inr behind ↦
+          let later = rest behind in
+          record { element = later.element; among = Contains-later x xs later.element later.among; gives = later.gives }
+    ]
+
+pub Given-filter_map : {X Y : Type 0} (h : X → Option Y) (xs : List X) (y : Y) → Contains (filter_map h xs) y
+    → Given h xs y
+Given-filter_map h [] y has = absurd (omega (arith, has.1))
+Given-filter_map h (x ∷ xs) y has = one_given h x xs y (h x) refl (Given-filter_map h xs y) has
+
+Contains-cons_option : {Y : Type 0} (o : Option Y) (ys : List Y) (y : Y) → Contains ys y → Contains (cons_option o ys) y
+Contains-cons_option None ys y has = has
+Contains-cons_option (Some z) ys y has = Contains-later z ys y has
+
+-- what an element gives is there
+pub Contains-filter_map : {X Y : Type 0} (h : X → Option Y) (xs : List X) (x : X) (y : Y) → Contains xs x
+    → h x ≡ Some y → Contains (filter_map h xs) y
+Contains-filter_map h [] x y has is = absurd (omega (arith, has.1))
+Contains-filter_map {X} {Y} h (z ∷ zs) x y has is =
+    elim (Contains-cases z zs x has) [
+      | inl same ↦
+          subst (λ (o : Option Y). Contains (cons_option o (filter_map h zs)) y) (sym (ap h same ∙ is))
+          (Contains-first y (filter_map h zs))
+      | inr later ↦ Contains-cons_option (h z) (filter_map h zs) y (Contains-filter_map h zs x y later is)
+    ]
+
+-- no more are given than there are
+pub length-filter_map : {X Y : Type 0} (h : X → Option Y) (xs : List X) → length (filter_map h xs) ≤ length xs
+length-filter_map h [] = omega arith
+length-filter_map {X} {Y} h (x ∷ xs) = by_option (h x) (length-filter_map h xs)
+  where
+    by_option : (o : Option Y) → length (filter_map h xs) ≤ length xs
+        → length (cons_option o (filter_map h xs)) ≤ suc (length xs)
+    by_option None le = omega arith
+    by_option (Some y) le = omega arith
 
 -- ---- a value that is there
 
@@ -101,6 +156,14 @@ pub some_there : {X : Type 0} (xs : List X) (some : Bool) → (IsTrue some ↔ (
     → (x : X) × (rest : List X) × (xs ≡ x ∷ rest)
 some_there [] some h is = absurd (omega (arith, h.0 is))
 some_there (x ∷ xs) some h is = (x, xs, refl)
+
+-- ---- numbers below a count
+
+-- a number that is below one more is below, or it is the last
+pub below_or_last : (k n : ℕ) → k < n + 1 → (k < n) ⊎ (k ≡ n)
+below_or_last k n lt =
+    let le : k ≤ n = omega arith in
+    elim (eq-or-lt_of_le le) [ inl same ↦ inr same | inr below ↦ inl below ]
 
 -- ---- parts of a list
 

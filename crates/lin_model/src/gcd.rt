@@ -1,13 +1,14 @@
 //! The greatest common divisor of a form's coefficients.
 
+ghost use Rattle.std.specs.Prelude.{◌≡◌};
 ghost use Rattle.std.specs.Int.{IsGcd};
-ghost use Rattle.lin_model.specs.Form.{IsGcdOf};
+ghost use Rattle.lin_model.specs.Form.{divisor};
 
 use crate::form::FormTerm;
 
 /// The greatest common divisor of the sizes of the coefficients, 0 where there are no terms or all are 0.
 pub fn gcd_of(terms: &[FormTerm]) -> u64
-    ensures { IsGcdOf terms.now result }
+    ensures { result ≡ divisor terms.now }
 {
     let mut gcd = 0;
     for term in terms {

@@ -2,7 +2,7 @@
 
 ghost use Rattle.std.specs.Prelude.{◌≡◌, ◌^◌, ◌<◌, ◌≤◌, ◌↔◌, ◌*ℤ◌, length, unsigned_abs, IsTrue, IsSome, IfSome};
 ghost use Rattle.std.specs.List.{All};
-ghost use Rattle.lin_model.specs.Form.{form_value, value_at, form_width, IsGcdOf};
+ghost use Rattle.lin_model.specs.Form.{form_value, value_at, form_width, divisor};
 ghost use Rattle.lin_model.specs.KeyAtom.{PlainKeyAtom, AscendsBelow64, HasSmallCoefficients, BeginsPositive};
 ghost use Rattle.lin_model.specs.KeyAtom.{IsCanonicalForm, IsCanonical, KeyAtomHolds};
 ghost use Rattle.lin_model.specs.Point.{AreSides};
@@ -222,7 +222,7 @@ fn begins_positive(terms: &[FormTerm]) -> bool
 
 /// Whether 1 is the greatest common divisor of the coefficients.
 fn is_primitive(terms: &[FormTerm]) -> bool
-    ensures { IsTrue result ↔ IsGcdOf terms.now 1 }
+    ensures { IsTrue result ↔ (divisor terms.now ≡ 1) }
 {
     gcd_of(terms) == 1
 }

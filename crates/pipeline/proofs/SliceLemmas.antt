@@ -1,58 +1,49 @@
 -- From what the slices come to, to their keys.
-use Rattle.std.proofs.Common.{◌≡◌, ◌↔◌, ℕ, zero, suc, ◌<◌, ℤ, pos, Bool, true, false, cond, nat_lt, Option, Some, None, IsSomeAnd, List, [], ◌∷◌, ◌++◌, length, get_or, slice_get, arith, refl, sym, subst, ap, ◌∙◌, ⊎_elim}
-use Rattle.std.specs.List.{All, Any, AllZip, Contains, filter_map, cons_option}
+use Rattle.std.proofs.Common.{◌≡◌, ◌↔◌, ℕ, suc, ◌<◌, ℤ, Bool, true, false, cond, nat_lt, Option, Some, None}
+use Rattle.std.proofs.Common.{IsSomeAnd, List, [], ◌∷◌, ◌++◌, length, get_or, slice_get, arith, refl, sym, subst, ap}
+use Rattle.std.proofs.Common.{◌∙◌}
+use Rattle.std.specs.List.{All, Any, AllZip, Contains, filter_map}
 use Rattle.std.proofs.lemmas.Bool.{ltb-false}
 use Rattle.std.proofs.lemmas.Slice.Zip.{AllZip-long}
-use Rattle.std.proofs.lemmas.List.Elements.{All-head, All-tail}
+use Rattle.std.proofs.lemmas.List.Elements.{All-contains, All-head, All-tail}
 use Rattle.lin_model.specs.Truth.{AtomHolds, IsAssignment}
-use Rattle.lin_model.specs.Test.{passes}
 use Rattle.lin_model.specs.Conditions.{PlainCondition, Fits}
 use Rattle.lin_model.specs.declared.atom.Atom.{Atom}
 use Rattle.lin_model.specs.KeyAtom.{PlainKeyAtom}
 use Rattle.lin_model.specs.Key.{KeyHolds}
-use Rattle.lin_model.specs.Lists.{nil_from_none, Found-at, within_from_IsSomeAnd, AllZip-at}
+use Rattle.lin_model.specs.Lists.{Contains-filter_map, nil_from_none, Found-at, within_from_IsSomeAnd, AllZip-at}
 use Rattle.slicer.specs.Slices.{PlainSlice, AreSlices, IsSliceOf, least, IsVariableFree, IsFront}
 use Rattle.slicer.specs.Names.{NamesNothingAt, atom_vars}
 use Rattle.slicer.specs.Linked.{alone}
 use Rattle.slicer.specs.Laws.{SlicesPartition}
 use Rattle.canoniser.specs.declared.canonical.Canonical.{Canonical}
 use Rattle.canoniser.specs.declared.canonical.Canonical.TheVariants.{False, Key}
-use Rattle.canoniser.specs.Gathered.{constant, op_of, loose}
-use Rattle.canoniser.specs.Forms.{always, never, says, ComesTo}
-use Rattle.canoniser.specs.Numbering.{atoms_of, order_of}
-use Rattle.canoniser.specs.Keys.{IsGiven, IsBound}
-use Rattle.canoniser.specs.Solutions.{IsNever, IsNeverAt, IsCanonised, SliceHolds, point_of}
+use Rattle.canoniser.specs.Facts.{no_key}
+use Rattle.canoniser.specs.Solutions.{IsFalse, IsFalseAt, SliceHolds, point_of}
 use Rattle.canoniser.specs.Answers.{Canonises}
 use Rattle.pipeline.specs.declared.slice_keys.SliceKey.{SliceKey}
-use Rattle.pipeline.specs.Answers.{NoneIsNever, IsLeastNever}
-use Rattle.pipeline.specs.Keyed.{HoldsAt, IsKeyed, AreKeyed, HasKey, IsNotBelow, IsLeastFalse, keys_in}
+use Rattle.pipeline.specs.Answers.{NoneIsFalse, IsLeastFalse}
+use Rattle.pipeline.specs.Keyed.{HoldsAt, IsKeyed, AreKeyed, HasKey, IsNotBelow, IsLeastFalseAmong, keys_in}
 
 -- ---- lists
 
--- what holds of all that is kept holds of one that is
-cons_head : {Y : Type 0} (P : Y → Type 0) (o : Option Y) (ys : List Y) (y : Y) → o ≡ Some y → All P (cons_option o ys) → P y
-cons_head {Y} P None ys y e all = absurd (cc)
-cons_head {Y} P (Some z) ys y e all = let same : z ≡ y = cc in subst P same (All-head P z ys all)
-
-cons_tail : {Y : Type 0} (P : Y → Type 0) (o : Option Y) (ys : List Y) → All P (cons_option o ys) → All P ys
-cons_tail {Y} P None ys all = all
-cons_tail {Y} P (Some z) ys all = All-tail P z ys all
-
-pub All-filter_map : {X Y : Type 0} (h : X → Option Y) (P : Y → Type 0) (xs : List X) (x : X) (y : Y) → All P (filter_map h xs) → Contains xs x → h x ≡ Some y → P y
-All-filter_map {X} {Y} h P [] x y all (k, lt, is) kept = absurd (omega arith)
-All-filter_map {X} {Y} h P (w ∷ xs) x y all (zero, lt, is) kept = cons_head P (h w) (filter_map h xs) y (ap h is ∙ kept) all
-All-filter_map {X} {Y} h P (w ∷ xs) x y all (suc k, lt, is) kept = All-filter_map h P xs x y (cons_tail P (h w) (filter_map h xs) all) (k, omega arith, is) kept
+-- what holds of all that is given holds of what an element gives
+pub All-filter_map : {X Y : Type 0} (h : X → Option Y) (P : Y → Type 0) (xs : List X) (x : X) (y : Y)
+    → All P (filter_map h xs) → Contains xs x → h x ≡ Some y → P y
+All-filter_map h P xs x y all has is = All-contains P (filter_map h xs) y all (Contains-filter_map h xs x y has is)
 
 -- ---- atoms that no integers satisfy
 
 -- an atom of a slice that comes to a number no less isn't one
-none_before : (q : PlainCondition) (s : PlainSlice) (c : Canonical) (i j : ℕ) → Canonises q s c → IsNotBelow j c → Contains s.atoms i → i < j → IsNeverAt q i → ⊥
+none_before : (q : PlainCondition) (s : PlainSlice) (c : Canonical) (i j : ℕ) → Canonises q s c → IsNotBelow j c
+    → Contains s.atoms i → i < j → IsFalseAt q i → ⊥
 none_before q s (False n) i j h below has lt bad = h.first i has (omega (arith, below, lt)) bad
-none_before q s (Key key back) i j h below has lt bad = h.possible i has bad
+none_before q s (Key key back) i j h below has lt bad = h.none_false i has bad
 
-none_in_key : (q : PlainCondition) (s : PlainSlice) (c : Canonical) (i : ℕ) → Canonises q s c → HasKey c → Contains s.atoms i → IsNeverAt q i → ⊥
+none_in_key : (q : PlainCondition) (s : PlainSlice) (c : Canonical) (i : ℕ) → Canonises q s c → HasKey c
+    → Contains s.atoms i → IsFalseAt q i → ⊥
 none_in_key q s (False n) i h is has bad = absurd is
-none_in_key q s (Key key back) i h is has bad = h.possible i has bad
+none_in_key q s (Key key back) i h is has bad = h.none_false i has bad
 
 -- a slice that has the atom, and what it comes to
 pub record Found (q : PlainCondition) (slices : List PlainSlice) (cs : List Canonical) (i : ℕ) : Type 0 where
@@ -62,7 +53,9 @@ pub record Found (q : PlainCondition) (slices : List PlainSlice) (cs : List Cano
   pub has : Contains slice.atoms i
   pub each : (e : Canonical) → Canonises q slice (get_or cs place e)
 
-find_slice : (q : PlainCondition) (slices : List PlainSlice) (cs : List Canonical) (i : ℕ) → SlicesPartition → Fits q.vars q.atoms → AreSlices q slices → AllZip (Canonises q) slices cs → i < length q.atoms → Found q slices cs i
+find_slice : (q : PlainCondition) (slices : List PlainSlice) (cs : List Canonical) (i : ℕ) → SlicesPartition
+    → Fits q.vars q.atoms → AreSlices q slices → AllZip (Canonises q) slices cs → i < length q.atoms
+    → Found q slices cs i
 find_slice q slices cs i law fits are zip lt = of ((law q slices fits.in_range are).each_atom i lt)
   where
     of : Any (λ slice. Contains slice.atoms i) slices → Found q slices cs i
@@ -71,25 +64,37 @@ find_slice q slices cs i law fits are zip lt = of ((law q slices fits.in_range a
       place = k;
       within = omega (arith, within, AllZip-long (Canonises q) slices cs zip);
       has = has;
-      each = λ e. subst (λ (x : PlainSlice). Canonises q x (get_or cs k e)) is (AllZip-at (Canonises q) slices cs k s e zip within);
+      each =
+          λ e. subst (λ (x : PlainSlice). Canonises q x (get_or cs k e)) is
+          (AllZip-at (Canonises q) slices cs k s e zip within);
     }
 
 -- there is an atom of this number
-has_number : (q : PlainCondition) (i : ℕ) → IsNeverAt q i → i < length q.atoms
-has_number q i bad = within_from_IsSomeAnd q.atoms IsNever i bad
+has_number : (q : PlainCondition) (i : ℕ) → IsFalseAt q i → i < length q.atoms
+has_number q i bad = within_from_IsSomeAnd q.atoms IsFalse i bad
 
-pub least_is_never : (q : PlainCondition) (slices : List PlainSlice) (cs : List Canonical) (j : ℕ) → SlicesPartition → Fits q.vars q.atoms → AreSlices q slices → AllZip (Canonises q) slices cs → IsLeastFalse cs j → IsLeastNever q j
-least_is_never q slices cs j law fits are zip false_j = record {
-  never = told false_j.one;
-  least = λ i lt bad. let f = find_slice q slices cs i law fits are zip (has_number q i bad) in none_before q f.slice (get_or cs f.place (False j)) i j (f.each (False j)) (false_j.least f.place (False j) f.within) f.has lt bad;
+pub least_is_false : (q : PlainCondition) (slices : List PlainSlice) (cs : List Canonical) (j : ℕ) → SlicesPartition
+    → Fits q.vars q.atoms → AreSlices q slices → AllZip (Canonises q) slices cs → IsLeastFalseAmong cs j
+    → IsLeastFalse q j
+least_is_false q slices cs j law fits are zip false_j = record {
+  is_false = told false_j.one;
+  least = λ i lt bad. let f = find_slice q slices cs i law fits are zip (has_number q i bad) in
+      none_before q f.slice (get_or cs f.place (False j)) i j (f.each (False j))
+      (false_j.least f.place (False j) f.within) f.has lt bad;
 }
   where
-    told : Contains cs (False j) → IsNeverAt q j
-    told (k, lt, is) = let within : k < length slices = omega (arith, lt, AllZip-long (Canonises q) slices cs zip) in (subst (Canonises q (get_or slices k (record { vars = []; atoms = [] }))) is (AllZip-at (Canonises q) slices cs k (record { vars = []; atoms = [] }) (False j) zip within)).never
+    told : Contains cs (False j) → IsFalseAt q j
+    told (k, lt, is) = let within : k < length slices =
+        omega (arith, lt, AllZip-long (Canonises q) slices cs zip) in
+        (subst (Canonises q (get_or slices k (record { vars = []; atoms = [] }))) is
+        (AllZip-at (Canonises q) slices cs k (record { vars = []; atoms = [] }) (False j) zip within)).is_false
 
-none_is_never : (q : PlainCondition) (slices : List PlainSlice) (cs : List Canonical) → SlicesPartition → Fits q.vars q.atoms → AreSlices q slices → AllZip (Canonises q) slices cs → All HasKey cs → NoneIsNever q
-none_is_never q slices cs law fits are zip keys i bad =
-    let f = find_slice q slices cs i law fits are zip (has_number q i bad) in none_in_key q f.slice (get_or cs f.place (False 0)) i (f.each (False 0)) (keys f.place (False 0) f.within) f.has bad
+none_is_false : (q : PlainCondition) (slices : List PlainSlice) (cs : List Canonical) → SlicesPartition
+    → Fits q.vars q.atoms → AreSlices q slices → AllZip (Canonises q) slices cs → All HasKey cs → NoneIsFalse q
+none_is_false q slices cs law fits are zip keys i bad =
+    let f = find_slice q slices cs i law fits are zip (has_number q i bad) in
+    none_in_key q f.slice (get_or cs f.place (False 0)) i (f.each (False 0))
+    (keys f.place (False 0) f.within) f.has bad
 
 -- ---- slices with variables
 
@@ -119,13 +124,21 @@ keep true k ks is = refl
 keep false k ks is = absurd (cc)
 
 -- each slice has a variable, and each comes to a key
-classes-keyed : (q : PlainCondition) (classes : List PlainSlice) (cs : List Canonical) → All (λ s. 0 < length s.vars) classes → AllZip (Canonises q) classes cs → All HasKey cs → AllZip (IsKeyed q) classes (keys_in cs)
+classes-keyed : (q : PlainCondition) (classes : List PlainSlice) (cs : List Canonical)
+    → All (λ s. 0 < length s.vars) classes → AllZip (Canonises q) classes cs → All HasKey cs
+    → AllZip (IsKeyed q) classes (keys_in cs)
 classes-keyed q [] [] some zip keys = tt
 classes-keyed q [] (c ∷ cs) some zip keys = absurd zip
 classes-keyed q (s ∷ classes) [] some zip keys = absurd zip
 classes-keyed q (s ∷ classes) (False j ∷ cs) some zip keys = absurd (All-head HasKey (False j) cs keys)
 classes-keyed q (s ∷ classes) (Key key back ∷ cs) some zip keys =
-    subst (AllZip (IsKeyed q) (s ∷ classes)) (sym (keep (nat_lt 0 (length back)) (record { key = key; back = back }) (keys_in cs) (some_width back s.vars zip.0.vars (All-head (λ t. 0 < length t.vars) s classes some)))) (zip.0, classes-keyed q classes cs (All-tail (λ t. 0 < length t.vars) s classes some) zip.1 (All-tail HasKey (Key key back) cs keys))
+    subst (AllZip (IsKeyed q) (s ∷ classes))
+    (sym (keep (nat_lt 0 (length back)) (record { key = key; back = back }) (keys_in cs)
+    (some_width back s.vars zip.0.vars (All-head (λ t. 0 < length t.vars) s classes some)))) (
+      zip.0,
+      classes-keyed q classes cs (All-tail (λ t. 0 < length t.vars) s classes some) zip.1
+          (All-tail HasKey (Key key back) cs keys),
+    )
 
 -- the slice of a class has its least variable
 class-has_var : (q : PlainCondition) (s : PlainSlice) → IsSliceOf q (least s) s → 0 < length s.vars
@@ -134,48 +147,30 @@ class-has_var q s is = of s.vars ((is.vars.just (least s)).1 (is.declared, alone
     of : (xs : List ℕ) → Contains xs (least s) → 0 < length xs
     of xs (k, lt, e) = omega (arith, lt)
 
-classes-have_vars : (q : PlainCondition) (classes : List PlainSlice) → All (λ s. IsSliceOf q (least s) s) classes → All (λ s. 0 < length s.vars) classes
+classes-have_vars : (q : PlainCondition) (classes : List PlainSlice) → All (λ s. IsSliceOf q (least s) s) classes
+    → All (λ s. 0 < length s.vars) classes
 classes-have_vars q classes each k d lt = class-has_var q (get_or classes k d) (each k d lt)
 
 -- ---- the slice without variables
 
--- an atom over no variables says nothing
-says_nothing : (atom : Atom) (a : PlainKeyAtom) → ComesTo [] atom (says a) → ⊥
-says_nothing atom a comes = by_truth (passes (op_of atom.cmp) (loose atom.cmp (constant atom)) (pos 0)) comes
-  where
-    by_truth : (b : Bool) → says a ≡ cond b always never → ⊥
-    by_truth true e = absurd (cc)
-    by_truth false e = absurd (cc)
-
--- a slice without variables has the empty key
-no_key : (q : PlainCondition) (s : PlainSlice) (key : List PlainKeyAtom) (back : List ℕ) → IsCanonised q s back key → back ≡ [] → key ≡ []
-no_key q s key back h none = nil_from_none key (λ a has. of a ((h.is_key.just a).0 has).one)
-  where
-    empty : order_of q s ≡ []
-    empty = sym h.numbered ∙ none
-
-    by_atom : (a : PlainKeyAtom) → Any (λ atom. ComesTo (order_of q s) atom (says a)) (atoms_of q s) → ⊥
-    by_atom a (k, atom, lt, is, comes) = says_nothing atom a (subst (λ (o : List ℕ). ComesTo o atom (says a)) empty comes)
-
-    by_bound : (a : PlainKeyAtom) → IsBound q (order_of q s) a → ⊥
-    by_bound a (v, lt, at) = let none_long : length (order_of q s) ≡ 0 = ap length empty in omega (arith, lt, none_long)
-
-    of : (a : PlainKeyAtom) → IsGiven q s a → ⊥
-    of a given = ⊎_elim (λ any. by_atom a any) (λ bound. by_bound a bound) given
-
 -- its atoms hold whatever the assignment
-always_holds : (q : PlainCondition) (s : PlainSlice) (c : Canonical) → s.vars ≡ [] → Canonises q s c → HasKey c → (values : List ℤ) → IsAssignment q.vars values → SliceHolds q s values
+always_holds : (q : PlainCondition) (s : PlainSlice) (c : Canonical) → s.vars ≡ [] → Canonises q s c → HasKey c
+    → (values : List ℤ) → IsAssignment q.vars values → SliceHolds q s values
 always_holds q s (False j) none h is values assigned = absurd is
 always_holds q s (Key key back) none h is values assigned =
-    let empty : back ≡ [] = no_width back (subst (λ (vs : List ℕ). (v : ℕ) → Contains back v ↔ Contains vs v) none h.vars) in
-    (h.same values assigned).1 (subst (λ (k : List PlainKeyAtom). KeyHolds k (point_of back values)) (sym (no_key q s key back h empty)) (λ k d lt. absurd (omega arith)))
+    let empty : back ≡ [] =
+    no_width back (subst (λ (vs : List ℕ). (v : ℕ) → Contains back v ↔ Contains vs v) none h.vars) in
+    (h.same values assigned).1 (subst (λ (k : List PlainKeyAtom). KeyHolds k (point_of back values))
+    (sym (no_key q s key (sym h.numbered ∙ empty) h.is_key)) (λ k d lt. absurd (omega arith)))
 
-pub atom_holds_at : (q : PlainCondition) (s : PlainSlice) (values : List ℤ) (j : ℕ) → SliceHolds q s values → Contains s.atoms j → j < length q.atoms → HoldsAt q values j
+pub atom_holds_at : (q : PlainCondition) (s : PlainSlice) (values : List ℤ) (j : ℕ) → SliceHolds q s values
+    → Contains s.atoms j → j < length q.atoms → HoldsAt q values j
 atom_holds_at q s values j holds has lt = of (slice_get q.atoms j) refl
   where
     of : (o : Option Atom) → slice_get q.atoms j ≡ o → IsSomeAnd o (λ atom. AtomHolds atom values)
     of None e = let there = (Found-at q.atoms j lt).is in absurd (cc)
-    of (Some atom) e = All-filter_map (λ j. slice_get q.atoms j) (λ atom. AtomHolds atom values) s.atoms j atom holds has e
+    of (Some atom) e =
+        All-filter_map (λ j. slice_get q.atoms j) (λ atom. AtomHolds atom values) s.atoms j atom holds has e
 
 -- ---- the keys
 
@@ -187,15 +182,22 @@ is_false : (xs : List ℕ) → xs ≡ [] → nat_lt 0 (length xs) ≡ false
 is_false xs e = ap (λ (ys : List ℕ). nat_lt 0 (length ys)) e
 
 -- the slice without variables stands in front
-one_front : (q : PlainCondition) (s : PlainSlice) (slices : List PlainSlice) (are : AreSlices q slices) (cs : List Canonical) → IsVariableFree (NamesNothingAt q.atoms) s → AllZip (Canonises q) (s ∷ are.classes) cs → All HasKey cs → NoneIsNever q → AreKeyed q (keys_in cs)
-one_front q s slices are [] free zip keys possible = absurd zip
-one_front q s slices are (False j ∷ cs) free zip keys possible = absurd (All-head HasKey (False j) cs keys)
-one_front q s slices are (Key key back ∷ cs) free zip keys possible = record {
+one_front : (q : PlainCondition) (s : PlainSlice) (slices : List PlainSlice) (are : AreSlices q slices)
+    (cs : List Canonical) → IsVariableFree (NamesNothingAt q.atoms) s → AllZip (Canonises q) (s ∷ are.classes) cs
+    → All HasKey cs → NoneIsFalse q → AreKeyed q (keys_in cs)
+one_front q s slices are [] free zip keys none_false = absurd zip
+one_front q s slices are (False j ∷ cs) free zip keys none_false = absurd (All-head HasKey (False j) cs keys)
+one_front q s slices are (Key key back ∷ cs) free zip keys none_false = record {
   slices = slices;
   are = are;
-  each = subst (AllZip (IsKeyed q) are.classes) (sym (drop_key (nat_lt 0 (length back)) (record { key = key; back = back }) (keys_in cs) (is_false back empty))) (classes-keyed q are.classes cs (classes-have_vars q are.classes are.linked.each) zip.1 (All-tail HasKey (Key key back) cs keys));
-  possible = possible;
-  variable_free = λ values assigned j names. atom_holds_at q s values j (always_holds q s (Key key back) free.vars zip.0 tt values assigned) ((free.atoms.just j).1 names) (has_atom j names);
+  each = subst (AllZip (IsKeyed q) are.classes)
+      (sym (drop_key (nat_lt 0 (length back)) (record { key = key; back = back }) (keys_in cs) (is_false back empty)))
+      (classes-keyed q are.classes cs (classes-have_vars q are.classes are.linked.each) zip.1
+      (All-tail HasKey (Key key back) cs keys));
+  none_false = none_false;
+  variable_free = λ values assigned j names. atom_holds_at q s values j
+      (always_holds q s (Key key back) free.vars zip.0 tt values assigned) ((free.atoms.just j).1 names)
+      (has_atom j names);
 }
   where
     empty : back ≡ []
@@ -204,19 +206,23 @@ one_front q s slices are (Key key back ∷ cs) free zip keys possible = record {
     has_atom : (j : ℕ) → NamesNothingAt q.atoms j → j < length q.atoms
     has_atom j names = within_from_IsSomeAnd q.atoms (λ atom. atom_vars atom ≡ []) j names
 
-pub keys_are_keyed : (q : PlainCondition) (slices : List PlainSlice) (cs : List Canonical) → SlicesPartition → Fits q.vars q.atoms → AreSlices q slices → AllZip (Canonises q) slices cs → All HasKey cs → AreKeyed q (keys_in cs)
+pub keys_are_keyed : (q : PlainCondition) (slices : List PlainSlice) (cs : List Canonical) → SlicesPartition
+    → Fits q.vars q.atoms → AreSlices q slices → AllZip (Canonises q) slices cs → All HasKey cs
+    → AreKeyed q (keys_in cs)
 keys_are_keyed q slices cs law fits are zip keys = of are.front are.variable_free are.joined
   where
     joined : (front : List PlainSlice) → slices ≡ front ++ are.classes → AllZip (Canonises q) (front ++ are.classes) cs
     joined front is = subst (λ (ss : List PlainSlice). AllZip (Canonises q) ss cs) is zip
 
-    of : (front : List PlainSlice) → IsFront (NamesNothingAt q.atoms) front → slices ≡ front ++ are.classes → AreKeyed q (keys_in cs)
+    of : (front : List PlainSlice) → IsFront (NamesNothingAt q.atoms) front → slices ≡ front ++ are.classes
+        → AreKeyed q (keys_in cs)
     of [] none is = record {
       slices = slices;
       are = are;
       each = classes-keyed q are.classes cs (classes-have_vars q are.classes are.linked.each) (joined [] is) keys;
-      possible = none_is_never q slices cs law fits are zip keys;
+      none_false = none_is_false q slices cs law fits are zip keys;
       variable_free = λ values assigned j names. absurd (none j names);
     }
-    of (s ∷ []) one is = one_front q s slices are cs one (joined (s ∷ []) is) keys (none_is_never q slices cs law fits are zip keys)
+    of (s ∷ []) one is =
+        one_front q s slices are cs one (joined (s ∷ []) is) keys (none_is_false q slices cs law fits are zip keys)
     of (s ∷ t ∷ more) bad is = absurd bad

@@ -6,7 +6,7 @@ use Rattle.lin_model.specs.KeyAtom.{PlainKeyAtom}
 use Rattle.slicer.specs.Slices.{PlainSlice, AreClasses}
 use Rattle.canoniser.specs.Keys.{IsKeyOf}
 use Rattle.canoniser.specs.Numbering.{order_of}
-use Rattle.canoniser.specs.Solutions.{IsNeverAt, point_of}
+use Rattle.canoniser.specs.Solutions.{IsFalseAt, point_of}
 use Rattle.refutation.specs.Tree.{PlainTree}
 use Rattle.refutation.specs.Reading.{HasNoPoint}
 use Rattle.refutation.specs.SearchTree.{IsOpenTree, room}
@@ -14,7 +14,8 @@ use Rattle.refutation.specs.declared.leaf.LeafTerm.{LeafTerm}
 use Rattle.refutation.specs.declared.node.Node.{Node}
 use Rattle.box_solver.specs.Answer.{IsModelTree, IsRefutingTree}
 use Rattle.box_solver.specs.declared.found.Found.{Found}
-use Rattle.box_solver.specs.declared.found.Found.TheVariants.{Model as FoundModel, Refuted as FoundRefuted, Spent as FoundSpent}
+use Rattle.box_solver.specs.declared.found.Found.TheVariants.{Model as FoundModel, Refuted as FoundRefuted}
+use Rattle.box_solver.specs.declared.found.Found.TheVariants.{Spent as FoundSpent}
 use Rattle.pipeline.specs.declared.solving.Reply.{Reply}
 use Rattle.pipeline.specs.declared.solving.Reply.TheVariants.{Model, Refuted, Spent}
 use Rattle.pipeline.specs.declared.answer.Told.{Told}
@@ -90,13 +91,13 @@ Leaves budget q slice (Open tree) = IsLeftOpen budget q slice tree
 -- ---- a whole query
 
 -- each atom is satisfied by some integers
-abbrev pub NoneIsNever : PlainCondition → Type 0
-NoneIsNever q = (j : ℕ) → ¬ IsNeverAt q j
+abbrev pub NoneIsFalse : PlainCondition → Type 0
+NoneIsFalse q = (j : ℕ) → ¬ IsFalseAt q j
 
 -- the least atom that no integers satisfy
-pub record IsLeastNever (q : PlainCondition) (j : ℕ) : Type 0 where
-  pub never : IsNeverAt q j
-  pub least : (i : ℕ) → i < j → ¬ IsNeverAt q i
+pub record IsLeastFalse (q : PlainCondition) (j : ℕ) : Type 0 where
+  pub is_false : IsFalseAt q j
+  pub least : (i : ℕ) → i < j → ¬ IsFalseAt q i
 
 -- the part was left open
 abbrev pub IsOpen : PlainPart → Type 0
@@ -108,9 +109,11 @@ pub record IsFirstOpen (parts : List PlainPart) (s : ℕ) : Type 0 where
   pub here : IsSomeAnd (slice_get parts s) IsOpen
   pub before : (i : ℕ) → i < s → slice_get parts i ≡ Some Solved
 
--- values that make the query hold as written; all slices were asked, and each gave its variables the values of its model
-pub record IsSat (budget : ℕ) (q : PlainCondition) (classes : List PlainSlice) (values : List ℤ) (parts : List PlainPart) : Type 0 where
-  pub possible : NoneIsNever q
+-- values that make the query hold as written; all slices were asked, and each gave its variables the values of its
+-- model
+pub record IsSat (budget : ℕ) (q : PlainCondition) (classes : List PlainSlice) (values : List ℤ)
+    (parts : List PlainPart) : Type 0 where
+  pub none_false : NoneIsFalse q
   pub holds : Holds q values
   pub given : All (IsGivenBy budget q values) classes
   pub asked : length parts ≡ length classes
@@ -118,13 +121,14 @@ pub record IsSat (budget : ℕ) (q : PlainCondition) (classes : List PlainSlice)
 
 -- the least atom without an integer solution; nothing was searched
 pub record IsUnsatAtom (q : PlainCondition) (j : ℕ) (parts : List PlainPart) : Type 0 where
-  pub least : IsLeastNever q j
+  pub least : IsLeastFalse q j
   pub none_asked : parts ≡ []
   pub unsatisfiable : ¬ IsSatisfiable q
 
 -- the slices were asked up to and with this one, the first found that has no model
-pub record IsUnsatSlice (budget : ℕ) (q : PlainCondition) (classes : List PlainSlice) (s : ℕ) (parts : List PlainPart) : Type 0 where
-  pub possible : NoneIsNever q
+pub record IsUnsatSlice (budget : ℕ) (q : PlainCondition) (classes : List PlainSlice) (s : ℕ)
+    (parts : List PlainPart) : Type 0 where
+  pub none_false : NoneIsFalse q
   pub asked : length parts ≡ s + 1
   pub before : AllZip (Leaves budget q) (take s classes) (take s parts)
   pub last : slice_get parts s ≡ Some Solved
@@ -132,8 +136,9 @@ pub record IsUnsatSlice (budget : ℕ) (q : PlainCondition) (classes : List Plai
   pub unsatisfiable : ¬ IsSatisfiable q
 
 -- all slices were asked, none was found to have no model, and this is the first that was left open
-pub record IsUnknown (budget : ℕ) (q : PlainCondition) (classes : List PlainSlice) (s : ℕ) (parts : List PlainPart) : Type 0 where
-  pub possible : NoneIsNever q
+pub record IsUnknown (budget : ℕ) (q : PlainCondition) (classes : List PlainSlice) (s : ℕ)
+    (parts : List PlainPart) : Type 0 where
+  pub none_false : NoneIsFalse q
   pub left : AllZip (Leaves budget q) classes parts
   pub first : IsFirstOpen parts s
 

@@ -1,5 +1,6 @@
 -- The keys of a query's slices.
-use Rattle.std.specs.Prelude.{ℕ, ◌≤◌, min, nat_lt, if◌then◌else◌, Option, Some, None, IsSomeAnd, ℤ, List, [], ◌∷◌, length, Contains}
+use Rattle.std.specs.Prelude.{ℕ, ◌≤◌, min, nat_lt, if◌then◌else◌, Option, Some, None, IsSomeAnd, ℤ, List, [], ◌∷◌}
+use Rattle.std.specs.Prelude.{length, Contains}
 use Rattle.std.specs.List.{All, AllZip, slice_get}
 use Rattle.lin_model.specs.Conditions.{PlainCondition}
 use Rattle.lin_model.specs.Truth.{AtomHolds, IsAssignment}
@@ -10,8 +11,8 @@ use Rattle.canoniser.specs.declared.canonical.Canonical.TheVariants.{False, Key}
 use Rattle.canoniser.specs.Solutions.{IsCanonised}
 use Rattle.pipeline.specs.declared.slice_keys.SliceKey.{SliceKey}
 use Rattle.pipeline.specs.declared.slice_keys.Keyed.{Keyed}
-use Rattle.pipeline.specs.declared.slice_keys.Keyed.TheVariants.{Never, Keys}
-use Rattle.pipeline.specs.Answers.{NoneIsNever, IsLeastNever}
+use Rattle.pipeline.specs.declared.slice_keys.Keyed.TheVariants.{False as FalseAtom, Keys}
+use Rattle.pipeline.specs.Answers.{NoneIsFalse, IsLeastFalse}
 
 -- there is an atom of this number, and it holds
 abbrev pub HoldsAt : PlainCondition → List ℤ → ℕ → Type 0
@@ -21,23 +22,25 @@ HoldsAt q values j = IsSomeAnd (slice_get q.atoms j) (λ atom. AtomHolds atom va
 abbrev pub IsKeyed : PlainCondition → PlainSlice → SliceKey → Type 0
 IsKeyed q slice k = IsCanonised q slice k.back k.key
 
--- each atom is satisfied by some integers, those without variables hold, and these are the keys of the slices with variables
+-- each atom is satisfied by some integers, those without variables hold, and these are the keys of the slices with
+-- variables
 pub record AreKeyed (q : PlainCondition) (keys : List SliceKey) : Type 0 where
   pub slices : List PlainSlice
   pub are : AreSlices q slices
   pub each : AllZip (IsKeyed q) are.classes keys
-  pub possible : NoneIsNever q
-  pub variable_free : (values : List ℤ) → IsAssignment q.vars values → (j : ℕ) → NamesNothingAt q.atoms j → HoldsAt q values j
+  pub none_false : NoneIsFalse q
+  pub variable_free : (values : List ℤ) → IsAssignment q.vars values → (j : ℕ) → NamesNothingAt q.atoms j
+      → HoldsAt q values j
 
 -- the query has slices, and this is its least atom that no integers satisfy
-pub record IsImpossible (q : PlainCondition) (j : ℕ) : Type 0 where
+pub record HasLeastFalse (q : PlainCondition) (j : ℕ) : Type 0 where
   pub slices : List PlainSlice
   pub are : AreSlices q slices
-  pub least : IsLeastNever q j
+  pub least : IsLeastFalse q j
 
 -- what the slices of the query came to
 abbrev pub IsKeyedQuery : PlainCondition → Keyed → Type 0
-IsKeyedQuery q (Never j) = IsImpossible q j
+IsKeyedQuery q (FalseAtom j) = HasLeastFalse q j
 IsKeyedQuery q (Keys keys) = AreKeyed q keys.items
 
 -- ---- of what the slices come to
@@ -53,7 +56,7 @@ IsNotBelow j (False i) = j ≤ i
 IsNotBelow j (Key key back) = Unit {0}
 
 -- the least of the numbers that are false
-pub record IsLeastFalse (canonicals : List Canonical) (j : ℕ) : Type 0 where
+pub record IsLeastFalseAmong (canonicals : List Canonical) (j : ℕ) : Type 0 where
   pub one : Contains canonicals (False j)
   pub least : All (IsNotBelow j) canonicals
 
@@ -67,4 +70,8 @@ least_with least (Key key back) = least
 abbrev pub keys_in : List Canonical → List SliceKey
 keys_in [] = []
 keys_in (False j ∷ canonicals) = keys_in canonicals
-keys_in (Key key back ∷ canonicals) = if nat_lt 0 (length back) then record { key = key; back = back } ∷ keys_in canonicals else keys_in canonicals
+keys_in (Key key back ∷ canonicals) = if nat_lt 0 (length back) then record {
+  key = key;
+  back =
+      back;
+} ∷ keys_in canonicals else keys_in canonicals

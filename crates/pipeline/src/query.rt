@@ -29,7 +29,7 @@ pub fn answer_query(
     ensures region { region.new ≡ region.old }
 {
     match keys_of(alloc, query)? {
-        Keyed::Never(j) => Ok(Plain {
+        Keyed::False(j) => Ok(Plain {
             verdict: Told::UnsatAtom(j),
             parts: Items::new(alloc),
         }),

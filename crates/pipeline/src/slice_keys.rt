@@ -3,7 +3,7 @@ ghost use Rattle.std.specs.Prelude.{◌≡◌, [], ◌∷◌, ◌++◌, IfOk, On
 ghost use Rattle.std.specs.List.{AllZip};
 ghost use Rattle.slicer.specs.Slices.{AreSlices};
 ghost use Rattle.canoniser.specs.Answers.{Canonises};
-ghost use Rattle.pipeline.specs.Keyed.{IsKeyedQuery, HasKey, IsLeastFalse, keys_in, least_with};
+ghost use Rattle.pipeline.specs.Keyed.{IsKeyedQuery, HasKey, IsLeastFalseAmong, keys_in, least_with};
 
 use canoniser::{Back, Canonical, canonise};
 use lin_model::{Condition, Key};
@@ -22,7 +22,7 @@ pub struct SliceKey {
 #[derive(Debug, Drop)]
 pub enum Keyed {
     /// The least atom of the query that no integers satisfy.
-    Never(u32),
+    False(u32),
     /// The keys of the slices with variables, in their order.
     Keys(Vec<SliceKey>),
 }
@@ -35,8 +35,8 @@ pub fn keys_of(alloc: Global, query: &Condition) -> Result<Keyed, NoMemory>
     slices_are_a_partition();
     let slices = slices(alloc, query)?;
     let canonicals = canonise_all(alloc, query, &slices)?;
-    if let Some(j) = least_never(&canonicals) {
-        return Ok(Keyed::Never(j));
+    if let Some(j) = least_false(&canonicals) {
+        return Ok(Keyed::False(j));
     }
     Ok(Keyed::Keys(with_variables(alloc, canonicals)?))
 }
@@ -58,8 +58,8 @@ fn canonise_all(
 }
 
 /// The least of the atoms that no integers satisfy.
-fn least_never(canonicals: &[Canonical]) -> Option<u32>
-    ensures { MatchOption result (All HasKey canonicals.now) (IsLeastFalse canonicals.now) }
+fn least_false(canonicals: &[Canonical]) -> Option<u32>
+    ensures { MatchOption result (All HasKey canonicals.now) (IsLeastFalseAmong canonicals.now) }
 {
     let mut least = None;
     for canonical in canonicals {

@@ -3,7 +3,8 @@ use Rattle.std.proofs.Common.{◌≡◌, ◌≢◌, ◌↔◌, ℕ, ◌*◌, ◌
 use Rattle.std.specs.Prelude.{IsTrue, bit_and, bit_or}
 use Rattle.std.specs.Int.{bit_at, w64, trailing_zeros}
 use Rattle.std.proofs.lemmas.Nat.{one_shl, pow_pos, and_le_l}
-use Rattle.std.proofs.lemmas.Nat.Bits.{bit_at-zero, bit_at_and, bit_at_or, bit_at-pow_same, bit_at-pow_other, and_pow, bit_at-trailing_zeros, bit_at-lt}
+use Rattle.std.proofs.lemmas.Nat.Bits.{bit_at-zero, bit_at_and, bit_at_or, bit_at-pow_same, bit_at-pow_other, and_pow}
+use Rattle.std.proofs.lemmas.Nat.Bits.{bit_at-trailing_zeros, bit_at-lt}
 use Rattle.std.proofs.lemmas.Bool.Decides.{eqb_tells, Decides-eqb}
 
 -- the number with one bit has that bit alone
@@ -48,7 +49,8 @@ tests_bit n k below =
     )
 
 -- the test whether two numbers share a bit
-pub tests_shared : (a b : ℕ) → a < 2 ^ 64 → IsTrue (not (nat_eq (bit_and a b) 0)) ↔ ((v : ℕ) × (bit_at a v ≡ 1) × (bit_at b v ≡ 1))
+pub tests_shared : (a b : ℕ) → a < 2 ^ 64 → IsTrue
+    (not (nat_eq (bit_and a b) 0)) ↔ ((v : ℕ) × (bit_at a v ≡ 1) × (bit_at b v ≡ 1))
 tests_shared a b small = (
   λ t.
       let bit = some_bit (bit_and a b) (omega (arith, and_le_l a b)) (not_zero _ t) in
@@ -70,7 +72,11 @@ tests_none n small = (
   λ t v on.
       let zero : bit_at n v ≡ 0 = ap (λ (x : ℕ). bit_at x v) ((Decides-eqb n 0).0 t) ∙ bit_at-zero v in
       omega arith,
-  λ none. elim (eqb_tells n 0) [ inl same ↦ same.0 | inr other ↦ absurd (let bit = some_bit n small other.1 in none bit.0 bit.1) ],
+  λ none. elim (eqb_tells n 0) [
+    | inl same ↦ same.0
+    | inr other ↦
+        absurd (let bit = some_bit n small other.1 in none bit.0 bit.1)
+  ],
 )
 
 -- the bits of either number
@@ -79,6 +85,10 @@ bit_at-either a b v =
     let either = bit_at_or a b v in
     let la = bit_at-lt a v in
     let lb = bit_at-lt b v in (
-      λ on. elim (eqb_tells (bit_at a v) 1) [ inl same ↦ inl same.1 | inr other ↦ inr (let off = other.1 in omega arith) ],
+      λ on. elim (eqb_tells (bit_at a v) 1) [
+        | inl same ↦ inl same.1
+        | inr other ↦
+            inr (let off = other.1 in omega arith)
+      ],
       λ one. elim one [ inl left ↦ omega arith | inr right ↦ omega arith ],
     )

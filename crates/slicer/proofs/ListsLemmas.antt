@@ -1,8 +1,8 @@
 -- Ascending lists of just the numbers of which something holds.
-use Rattle.std.proofs.Common.{◌≡◌, ◌↔◌, ℕ, ◌+◌, ◌<◌, List, [], ◌∷◌, ◌++◌, get_or, ◌⊎◌, inl, inr, arith, subst}
+use Rattle.std.proofs.Common.{◌↔◌, ℕ, ◌+◌, ◌<◌, List, [], ◌∷◌, ◌++◌, get_or, inl, inr, arith, subst}
 use Rattle.std.proofs.lemmas.List.Elements.{Contains-append_left, Contains-push, Contains-push_cases, Contains-get_or}
 use Rattle.std.proofs.lemmas.List.Quantifiers.{all_pairs_push}
-use Rattle.std.proofs.lemmas.Bool.Decides.{eqb_tells}
+use Rattle.lin_model.specs.Lists.{below_or_last}
 use Rattle.slicer.specs.Slices.{Lists}
 
 -- those below a count
@@ -15,13 +15,12 @@ Lists-none P = record {
   just = λ n. (λ has. absurd (omega (arith, has.1)), λ below. absurd (omega (arith, below.0)));
 }
 
--- a number that is below the count was before or is the last
-pub below_or_last : (n count : ℕ) → n < count + 1 → (n < count) ⊎ (n ≡ count)
-below_or_last n count lt = elim (eqb_tells n count) [ inl same ↦ inr same.1 | inr other ↦ inl (let ne = other.1 in omega arith) ]
-
-pub Lists-kept : (P : ℕ → Type 0) (count : ℕ) (numbers : List ℕ) → Lists (Below P count) numbers → P count → Lists (Below P (count + 1)) (numbers ++ count ∷ [])
+pub Lists-kept : (P : ℕ → Type 0) (count : ℕ) (numbers : List ℕ) → Lists (Below P count) numbers → P count
+    → Lists (Below P (count + 1)) (numbers ++ count ∷ [])
 Lists-kept P count numbers so_far here = record {
-  ascending = all_pairs_push ◌<◌ numbers count so_far.ascending (λ k d within. ((so_far.just (get_or numbers k d)).0 (Contains-get_or numbers k d within)).0);
+  ascending =
+      all_pairs_push ◌<◌ numbers count so_far.ascending
+      (λ k d within. ((so_far.just (get_or numbers k d)).0 (Contains-get_or numbers k d within)).0);
   just = λ n. (
     λ has. elim (Contains-push_cases numbers count n has) [
       | inl earlier ↦ (let below = (so_far.just n).0 earlier in (let lt = below.0 in omega arith, below.1))
@@ -34,7 +33,8 @@ Lists-kept P count numbers so_far here = record {
   );
 }
 
-pub Lists-skipped : (P : ℕ → Type 0) (count : ℕ) (numbers : List ℕ) → Lists (Below P count) numbers → ¬ P count → Lists (Below P (count + 1)) numbers
+pub Lists-skipped : (P : ℕ → Type 0) (count : ℕ) (numbers : List ℕ) → Lists (Below P count) numbers → ¬ P count
+    → Lists (Below P (count + 1)) numbers
 Lists-skipped P count numbers so_far not_here = record {
   ascending = so_far.ascending;
   just = λ n. (

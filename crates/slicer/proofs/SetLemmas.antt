@@ -17,8 +17,10 @@ abbrev empty : VarSet
 empty = record { bits = 0 }
 
 -- what a set tells of the atom of its number
-set_tells : (atoms : List Atom) (sets : List VarSet) → AreSetsOf atoms sets → (k : ℕ) (atom : Atom) (d : VarSet) (v : ℕ) → k < length sets → get_or atoms k atom ≡ atom → Has (get_or sets k d) v ↔ Names atom v
-set_tells atoms sets are k atom d v lt is = subst (λ (x : Atom). Has (get_or sets k d) v ↔ Names x v) is (are.same k atom d lt v)
+set_tells : (atoms : List Atom) (sets : List VarSet) → AreSetsOf atoms sets → (k : ℕ) (atom : Atom) (d : VarSet) (v : ℕ)
+    → k < length sets → get_or atoms k atom ≡ atom → Has (get_or sets k d) v ↔ Names atom v
+set_tells atoms sets are k atom d v lt is =
+    subst (λ (x : Atom). Has (get_or sets k d) v ↔ Names x v) is (are.same k atom d lt v)
 
 -- the atom of a number that is in range
 record AtomAt (atoms : List Atom) (k : ℕ) : Type 0 where
@@ -29,16 +31,27 @@ record AtomAt (atoms : List Atom) (k : ℕ) : Type 0 where
 atom_at : (atoms : List Atom) (k : ℕ) → k < length atoms → AtomAt atoms k
 atom_at atoms k lt =
     let found = Found-at atoms k lt in
-    record { atom = found.value; there = found.is; read = get_or_from_slice_get atoms k found.value found.value found.is }
+    record {
+      atom = found.value;
+      there = found.is;
+      read =
+          get_or_from_slice_get atoms k found.value found.value found.is;
+    }
 
 -- chains through the sets are chains through the atoms
-pub Linked-sets : (c : PlainCondition) (sets : List VarSet) → AreSetsOf c.atoms sets → (u v : ℕ) → Chain Has sets u v ↔ Linked c u v
+pub Linked-sets : (c : PlainCondition) (sets : List VarSet) → AreSetsOf c.atoms sets → (u v : ℕ)
+    → Chain Has sets u v ↔ Linked c u v
 Linked-sets c sets are u v = (
   Chain-over Has sets Names c.atoms (λ a b beside.
       let lt : beside.0 < length c.atoms = let one_each = are.one_each in let within = beside.2 in omega arith in
       let here = atom_at c.atoms beside.0 lt in
-      let tells = λ (w : ℕ). set_tells c.atoms sets are beside.0 here.atom beside.1 w beside.2 here.read in
-      (beside.0, here.atom, lt, here.read, ((tells a).0 (rw beside.3 beside.4.0), (tells b).0 (rw beside.3 beside.4.1)))),
+      let tells = λ (w : ℕ). set_tells c.atoms sets are beside.0 here.atom beside.1 w beside.2 here.read in (
+        beside.0,
+        here.atom,
+        lt,
+        here.read,
+        ((tells a).0 (rw beside.3 beside.4.0), (tells b).0 (rw beside.3 beside.4.1)),
+      )),
   Chain-over Names c.atoms Has sets (λ a b beside.
       let lt : beside.0 < length sets = let one_each = are.one_each in let within = beside.2 in omega arith in
       let set = get_or sets beside.0 empty in
@@ -47,7 +60,9 @@ Linked-sets c sets are u v = (
 )
 
 -- an atom names one of these variables where its set meets them
-pub NamesAt-sets : (atoms : List Atom) (sets : List VarSet) (vars : VarSet) (P : ℕ → Type 0) → AreSetsOf atoms sets → ((v : ℕ) → Has vars v ↔ P v) → (j : ℕ) → ((j < length sets) × HoldsAt (λ set. Meet set vars) sets j) ↔ ((v : ℕ) × P v × NamesAt atoms j v)
+pub NamesAt-sets : (atoms : List Atom) (sets : List VarSet) (vars : VarSet) (P : ℕ → Type 0) → AreSetsOf atoms sets
+    → ((v : ℕ) → Has vars v ↔ P v) → (j : ℕ)
+    → ((j < length sets) × HoldsAt (λ set. Meet set vars) sets j) ↔ ((v : ℕ) × P v × NamesAt atoms j v)
 NamesAt-sets atoms sets vars P are same j = (
   λ meets.
       let lt : j < length atoms = let one_each = are.one_each in let within = meets.0 in omega arith in
@@ -60,22 +75,27 @@ NamesAt-sets atoms sets vars P are same j = (
       let v = named.0 in
       let found = Found-from (slice_get atoms j) (λ a. Names a v) named.2 in
       let read = get_or_from_slice_get atoms j found.value found.value found.is in
-      let lt : j < length sets = let one_each = are.one_each in let within = slice_get_within atoms j found.value found.is in omega arith in
+      let lt : j < length sets = let one_each = are.one_each in let within =
+      slice_get_within atoms j found.value found.is in omega arith in
       (lt, λ d. (v, (set_tells atoms sets are j found.value d v lt read).1 found.holds, (same v).1 named.1)),
 )
 
 -- an atom names no variable where its set is empty
-pub NamesNothingAt-sets : (atoms : List Atom) (sets : List VarSet) → AreSetsOf atoms sets → (j : ℕ) → ((j < length sets) × HoldsAt IsVoid sets j) ↔ NamesNothingAt atoms j
+pub NamesNothingAt-sets : (atoms : List Atom) (sets : List VarSet) → AreSetsOf atoms sets → (j : ℕ)
+    → ((j < length sets) × HoldsAt IsVoid sets j) ↔ NamesNothingAt atoms j
 NamesNothingAt-sets atoms sets are j = (
   λ void.
       let lt : j < length atoms = let one_each = are.one_each in let within = void.0 in omega arith in
       let here = atom_at atoms j lt in
-      let none = nil_from_none (atom_vars here.atom) (λ v names. void.1 empty v ((set_tells atoms sets are j here.atom empty v void.0 here.read).1 names)) in
+      let none =
+      nil_from_none (atom_vars here.atom)
+      (λ v names. void.1 empty v ((set_tells atoms sets are j here.atom empty v void.0 here.read).1 names)) in
       IsSomeAnd-found (slice_get atoms j) (λ a. atom_vars a ≡ []) here.atom here.there none,
   λ nothing.
       let found = Found-from (slice_get atoms j) (λ a. atom_vars a ≡ []) nothing in
       let read = get_or_from_slice_get atoms j found.value found.value found.is in
-      let lt : j < length sets = let one_each = are.one_each in let within = slice_get_within atoms j found.value found.is in omega arith in (
+      let lt : j < length sets = let one_each = are.one_each in let within =
+      slice_get_within atoms j found.value found.is in omega arith in (
         lt,
         λ d v has.
             let names = (set_tells atoms sets are j found.value d v lt read).0 has in

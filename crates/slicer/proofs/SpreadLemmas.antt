@@ -23,27 +23,37 @@ IsAbsorbed-none sets reached = record {
   larger = omega arith;
 }
 
-pub IsAbsorbed-more : (sets : List VarSet) (reached : VarSet) (i : ℕ) (next set result : VarSet) → i < length sets → set ≡ get_or sets i set → IsAbsorbed sets reached i next → (Meet set next → Includes set result) → ((v : ℕ) → Has result v → Has next v ⊎ (Meet set next × Has set v)) → Includes next result → next.bits ≤ result.bits → IsAbsorbed sets reached (i + 1) result
-IsAbsorbed-more sets reached i next set result within is so_far takes only keeps larger = let TakesIn = λ (x : VarSet). Meet x reached → Includes x result in record {
-  all = λ k d lt. below_more (λ (j : ℕ). TakesIn (get_or sets j d)) i (λ j l meet v has. keeps v (so_far.all j d l meet v has)) (at_read sets TakesIn i set within is (λ meet. takes (meet.0, meet.1, so_far.keeps meet.0 meet.2)) d) k lt;
-  only = λ v has. elim (only v has) [
-    | inl earlier ↦ so_far.only v earlier
-    | inr both ↦ (
-        let first = so_far.only both.0.0 both.0.2 in
-        (first.0, first.1, longer first.2 (i, set, within, sym is, (both.0.1, both.1)))
-        )
-  ];
-  keeps = λ v has. keeps v (so_far.keeps v has);
-  larger = let before = so_far.larger in omega arith;
-}
+pub IsAbsorbed-more : (sets : List VarSet) (reached : VarSet) (i : ℕ) (next set result : VarSet) → i < length sets
+    → set ≡ get_or sets i set → IsAbsorbed sets reached i next → (Meet set next → Includes set result)
+    → ((v : ℕ) → Has result v → Has next v ⊎ (Meet set next × Has set v)) → Includes next result
+    → next.bits ≤ result.bits → IsAbsorbed sets reached (i + 1) result
+IsAbsorbed-more sets reached i next set result within is so_far takes only keeps larger = let TakesIn =
+    λ (x : VarSet). Meet x reached → Includes x result in record {
+      all = λ k d lt. below_more (λ (j : ℕ). TakesIn (get_or sets j d)) i
+          (λ j l meet v has. keeps v (so_far.all j d l meet v has))
+          (at_read sets TakesIn i set within is (λ meet. takes (meet.0, meet.1, so_far.keeps meet.0 meet.2)) d) k lt;
+      only = λ v has. elim (only v has) [
+        | inl earlier ↦ so_far.only v earlier
+        | inr both ↦ (
+            let first = so_far.only both.0.0 both.0.2 in
+            (first.0, first.1, longer first.2 (i, set, within, sym is, (both.0.1, both.1)))
+            )
+      ];
+      keeps = λ v has. keeps v (so_far.keeps v has);
+      larger = let before = so_far.larger in omega arith;
+    }
 
 -- where each set that meets what is reached is in it, so is all that chains join to it
-pub IsReached-closed : (sets : List VarSet) (first reached : VarSet) → All (λ set. Meet set reached → Includes set reached) sets → Includes first reached → (v : ℕ) → IsReached sets first v → Has reached v
+pub IsReached-closed : (sets : List VarSet) (first reached : VarSet)
+    → All (λ set. Meet set reached → Includes set reached) sets → Includes first reached → (v : ℕ)
+    → IsReached sets first v → Has reached v
 IsReached-closed sets first reached closed keeps v chain =
     kept_along Has sets (λ n. Has reached n)
     (λ a b beside here.
     let set = beside.1 in
-    let all : Meet (get_or sets beside.0 set) reached → Includes (get_or sets beside.0 set) reached = closed beside.0 set beside.2 in
-    let takes : Meet set reached → Includes set reached = subst (λ (x : VarSet). Meet x reached → Includes x reached) beside.3 all in
+    let all : Meet (get_or sets beside.0 set) reached → Includes (get_or sets beside.0 set) reached =
+    closed beside.0 set beside.2 in
+    let takes : Meet set reached → Includes set reached =
+    subst (λ (x : VarSet). Meet x reached → Includes x reached) beside.3 all in
     takes (a, beside.4.0, here) b beside.4.1)
     chain.2 (keeps chain.0 chain.1)

@@ -30,12 +30,22 @@ check_none = refl
 
 -- `v1 <= v2` and `v0 <= v1`
 abbrev backward : PlainCondition
-backward = record { vars = []; atoms = atom_of (times 1 1 ∷ []) (times 1 2 ∷ []) ∷ atom_of (times 1 0 ∷ []) (times 1 1 ∷ []) ∷ [] }
+backward = record {
+  vars = [];
+  atoms =
+      atom_of (times 1 1 ∷ []) (times 1 2 ∷ []) ∷ atom_of (times 1 0 ∷ []) (times 1 1 ∷ []) ∷ [];
+}
 
 -- the second atom joins v0 to v1, and the first v1 to v2
 check_chain : Linked backward 0 2
 check_chain =
-    longer (longer alone (1, atom_of (times 1 0 ∷ []) (times 1 1 ∷ []), omega arith, refl, ((0, omega arith, refl), (1, omega arith, refl))))
+    longer (longer alone (
+      1,
+      atom_of (times 1 0 ∷ []) (times 1 1 ∷ []),
+      omega arith,
+      refl,
+      ((0, omega arith, refl), (1, omega arith, refl)),
+    ))
     (0, atom_of (times 1 1 ∷ []) (times 1 2 ∷ []), omega arith, refl, ((0, omega arith, refl), (1, omega arith, refl)))
 
 -- the first atom names v2

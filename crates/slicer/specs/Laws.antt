@@ -35,4 +35,5 @@ pub record IsPartition (c : PlainCondition) (slices : List PlainSlice) : Type 0 
 
 -- the slices of a condition part it, where its atoms name only variables that it declares
 abbrev pub SlicesPartition : Type 0
-SlicesPartition = (c : PlainCondition) (slices : List PlainSlice) → NamesDeclared c → AreSlices c slices → IsPartition c slices
+SlicesPartition =
+    (c : PlainCondition) (slices : List PlainSlice) → NamesDeclared c → AreSlices c slices → IsPartition c slices

@@ -2,4 +2,5 @@ pub mod Names
 pub mod Linked
 pub mod Slices
 pub mod VarSets
+pub mod Facts
 pub mod Laws

@@ -29,7 +29,8 @@ IsSetOf atom set = (v : ℕ) → Has set v ↔ Names atom v
 -- there is a set for each atom, of the variables that it names
 pub record AreSetsOf (atoms : List Atom) (sets : List VarSet) : Type 0 where
   pub one_each : length sets ≡ length atoms
-  pub same : (k : ℕ) (atom : Atom) (set : VarSet) → k < length sets → IsSetOf (slice_index_or atoms k atom) (slice_index_or sets k set)
+  pub same : (k : ℕ) (atom : Atom) (set : VarSet) → k < length sets
+      → IsSetOf (slice_index_or atoms k atom) (slice_index_or sets k set)
 
 -- a chain through the sets joins some variable of the first set to this one
 abbrev pub IsReached : List VarSet → VarSet → ℕ → Type 0

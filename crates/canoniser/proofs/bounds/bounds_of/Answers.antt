@@ -1,4 +1,5 @@
-use Rattle.std.proofs.Common.{◌≡◌, ◌<◌, ◌∙◌, ℕ, ◌+◌, ◌*◌, ◌++◌, ◌∷◌, [], List, length, get_or, Some, ap, subst, arith, refl}
+use Rattle.std.proofs.Common.{◌≡◌, ◌<◌, ◌∙◌, ℕ, ◌+◌, ◌*◌, ◌++◌, ◌∷◌, [], List, length, get_or, Some, ap, subst, arith}
+use Rattle.std.proofs.Common.{refl}
 use Rattle.std.specs.List.{slice_get}
 use Rattle.std.proofs.lemmas.List.{length_push}
 use Rattle.std.proofs.lemmas.Option.{slice_get_read}
@@ -16,10 +17,25 @@ loop-v-preserved c =
     let atoms = c.loop-v.atoms.items in
     let upper = upper_atom n var in
     let declared : get_or order n 0 < length q.vars = c.requires.declared n 0 c.loop-v-test.true in
-    let read : var ≡ get_or q.vars (get_or order n 0) var = c.index-vars-var.is ∙ ap (λ (vars : List PlainVar). get_or vars (get_or order n 0) var) c.vars-vars.ensures.vars in
-    let there : slice_get q.vars (get_or order n 0) ≡ Some var = slice_get_read q.vars (length q.vars) (get_or order n 0) var refl declared read in
-    let longer : length ((atoms ++ upper ∷ []) ++ lower_atom n var ∷ []) ≡ 2 * (n + 1) = omega (arith, length_push (atoms ++ upper ∷ []) (lower_atom n var), length_push atoms upper, c.loop-v.invariant.two_each) in
-    rw c.in_ok-push_bounds.ensures.items (record { two_each = longer; fit = FitBelow-more q order n var there c.loop-v.invariant.fit c.in_ok-push_bounds.ensures.fits; just = AreBounds-more q order n var atoms there c.loop-v.invariant.just })
+    let read : var ≡ get_or q.vars (get_or order n 0) var =
+    c.index-vars-var.is ∙ ap (λ (vars : List PlainVar). get_or vars (get_or order n 0) var)
+    c.vars-vars.ensures.vars in
+    let there : slice_get q.vars (get_or order n 0) ≡ Some var =
+    slice_get_read q.vars (length q.vars) (get_or order n 0) var refl declared read in
+    let longer : length ((atoms ++ upper ∷ []) ++ lower_atom n var ∷ []) ≡ 2 * (n + 1) =
+    omega (
+      arith,
+      length_push (atoms ++ upper ∷ []) (lower_atom n var),
+      length_push atoms upper,
+      c.loop-v.invariant.two_each,
+    ) in
+    rw c.in_ok-push_bounds.ensures.items
+    (record {
+      two_each = longer;
+      fit = FitBelow-more q order n var there c.loop-v.invariant.fit c.in_ok-push_bounds.ensures.fits;
+      just =
+          AreBounds-more q order n var atoms there c.loop-v.invariant.just;
+    })
 
 pub returns-clause-just : goal.returns-clause-just
 returns-clause-just c =

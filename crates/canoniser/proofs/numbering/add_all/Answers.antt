@@ -7,4 +7,6 @@ pub loop-var-preserved : goal.loop-var-preserved
 loop-var-preserved c =
     let vars = c.args.vars.now in
     let k = c.loop-var.var-index in
-    Gains-more c.args.order.now.items c.loop-var.order.items c.add.new.order.items (take k vars) (get_or vars k 0 ∷ []) (take (k + 1) vars) (take_more vars k 0 c.loop-var-test.true) c.loop-var.invariant (c.in_ok-add.ensures {u = tt})
+    Gains-more c.args.order.now.items c.loop-var.order.items c.add.new.order.items (take k vars) (get_or vars k 0 ∷ [])
+    (take (k + 1) vars) (take_more vars k 0 c.loop-var-test.true) c.loop-var.invariant
+    (c.in_ok-add.ensures {u = tt})

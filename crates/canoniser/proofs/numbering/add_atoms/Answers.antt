@@ -9,4 +9,8 @@ loop-j-preserved c =
     let atoms = c.args.atoms.now in
     let numbers = c.args.numbers.now in
     let k = c.loop-j.j-index in
-    Gains-more c.args.order.now.items c.loop-j.order.items c.add_numbered.new.order.items (flat_map atom_vars (filter_map (λ j. slice_get atoms j) (take k numbers))) (flat_map atom_vars (cons_option (slice_get atoms (get_or numbers k 0)) [])) (flat_map atom_vars (filter_map (λ j. slice_get atoms j) (take (k + 1) numbers))) (named_more atoms numbers k c.loop-j-test.true) c.loop-j.invariant (c.in_ok-add_numbered.ensures {u = tt})
+    Gains-more c.args.order.now.items c.loop-j.order.items c.add_numbered.new.order.items
+    (flat_map atom_vars (filter_map (λ j. slice_get atoms j) (take k numbers)))
+    (flat_map atom_vars (cons_option (slice_get atoms (get_or numbers k 0)) []))
+    (flat_map atom_vars (filter_map (λ j. slice_get atoms j) (take (k + 1) numbers)))
+    (named_more atoms numbers k c.loop-j-test.true) c.loop-j.invariant (c.in_ok-add_numbered.ensures {u = tt})

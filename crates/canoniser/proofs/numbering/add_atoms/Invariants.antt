@@ -6,4 +6,6 @@ use Rattle.canoniser.proofs.numbering.add_atoms.Given as goal
 
 -- the variables of the atoms so far are in
 abbrev pub invariant-loop-j : goal.invariant-loop-j
-invariant-loop-j l = Gains l.initial.order.items l.order.items (flat_map atom_vars (filter_map (λ j. slice_get l.atoms j) (take l.j-index l.numbers)))
+invariant-loop-j l =
+    Gains l.initial.order.items l.order.items
+    (flat_map atom_vars (filter_map (λ j. slice_get l.atoms j) (take l.j-index l.numbers)))

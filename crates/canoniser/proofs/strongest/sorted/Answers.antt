@@ -7,4 +7,6 @@ use Rattle.canoniser.proofs.strongest.sorted.Goals as goal
 
 pub returns-clause-sorted : goal.returns-clause-sorted
 returns-clause-sorted c =
-    c.sort_unstable_by.ensures.sorted (λ x y. is_lt (compare_atoms x y)) (ranks_by c.order_is_total.ensures.total (λ (a : PlainKeyAtom). a)) (answers_always _ _ _ (λ f a r q called. search rules))
+    c.sort_unstable_by.ensures.sorted (λ x y. is_lt (compare_atoms x y))
+    (ranks_by c.order_is_total.ensures.total (λ (a : PlainKeyAtom). a))
+    (answers_always _ _ _ (λ f a r q called. search rules))

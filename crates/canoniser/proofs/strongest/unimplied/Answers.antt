@@ -9,7 +9,8 @@ use Rattle.canoniser.proofs.strongest.unimplied.Goals as goal
 pub without_implied-requires-2 : goal.without_implied-requires-2
 without_implied-requires-2 g c =
     let kept = c.in_ok-kept.kept.items in
-    rw c.reverse.ensures.items (StandTogether-reverse kept (StandTogether-part kept c.args.atoms.items c.in_ok-kept.ensures.part c.requires.together))
+    rw c.reverse.ensures.items (StandTogether-reverse kept
+    (StandTogether-part kept c.args.atoms.items c.in_ok-kept.ensures.part c.requires.together))
 
 pub returns-clause-part : goal.returns-clause-part
 returns-clause-part g c =
@@ -30,6 +31,8 @@ returns-clause-apart g c =
     let kept = c.in_ok-kept.kept.items in
     let strongest = c.in_ok-strongest.strongest.items in
     let second : IsPartOf strongest (reverse kept) = rw c.reverse.ensures.items at c.in_ok-strongest.ensures.part in
-    let back : AllPairs (λ a b. ¬ Implies b a) (reverse kept) = AllPairs-reverse (λ a b. ¬ Implies b a) kept c.in_ok-kept.ensures.apart in
-    let here : AllPairs (λ a b. ¬ Implies b a) strongest = AllPairs-part (λ a b. ¬ Implies b a) strongest (reverse kept) second back in
+    let back : AllPairs (λ a b. ¬ Implies b a) (reverse kept) =
+    AllPairs-reverse (λ a b. ¬ Implies b a) kept c.in_ok-kept.ensures.apart in
+    let here : AllPairs (λ a b. ¬ Implies b a) strongest =
+    AllPairs-part (λ a b. ¬ Implies b a) strongest (reverse kept) second back in
     rw c.reverse-2.ensures.items (AllPairs-reverse (λ a b. ¬ Implies a b) strongest here)

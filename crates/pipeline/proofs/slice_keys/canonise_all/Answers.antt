@@ -11,7 +11,16 @@ loop-slice-init c = subst (AllZip (Canonises c.args.query.now) []) (sym c.new-ca
 
 pub loop-slice-preserved : goal.loop-slice-preserved
 loop-slice-preserved c =
-    subst (λ (ss : List PlainSlice). AllZip (Canonises c.args.query.now) ss c.push.new.self.items) (sym (front_more c.args.slices.now c.loop-slice.slice-index c.slice-item.result c.loop-slice-test.true c.slice-item.is)) (subst (AllZip (Canonises c.args.query.now) (take c.loop-slice.slice-index c.args.slices.now ++ c.slice-item.result ∷ [])) (sym (c.in_ok-push.ensures {u = tt}).items) (zip_push (Canonises c.args.query.now) (take c.loop-slice.slice-index c.args.slices.now) c.loop-slice.canonicals.items c.slice-item.result c.in_ok-canonise.field-0 c.loop-slice.invariant (c.in_ok-canonise.ensures {u = tt})))
+    subst (λ (ss : List PlainSlice). AllZip (Canonises c.args.query.now) ss c.push.new.self.items)
+    (sym (front_more c.args.slices.now c.loop-slice.slice-index c.slice-item.result c.loop-slice-test.true
+    c.slice-item.is))
+    (subst (AllZip (Canonises c.args.query.now)
+    (take c.loop-slice.slice-index c.args.slices.now ++ c.slice-item.result ∷ []))
+    (sym (c.in_ok-push.ensures {u = tt}).items)
+    (zip_push (Canonises c.args.query.now)
+    (take c.loop-slice.slice-index c.args.slices.now) c.loop-slice.canonicals.items c.slice-item.result
+    c.in_ok-canonise.field-0 c.loop-slice.invariant (c.in_ok-canonise.ensures {u = tt})))
 
 pub returns : goal.returns
-returns c = subst (λ (ss : List PlainSlice). AllZip (Canonises c.args.query.now) ss c.loop-slice.canonicals.items) (take_all c.loop-slice.slice-index c.args.slices.now c.loop-slice-test.false) c.loop-slice.invariant
+returns c = subst (λ (ss : List PlainSlice). AllZip (Canonises c.args.query.now) ss c.loop-slice.canonicals.items)
+    (take_all c.loop-slice.slice-index c.args.slices.now c.loop-slice-test.false) c.loop-slice.invariant

@@ -18,6 +18,7 @@ returns c =
       front = c.in_ok-slices.slices.items;
       classes = c.in_ok-linked.linked.items;
       joined = refl;
-      variable_free = IsFront-same _ _ (NamesNothingAt-sets c.args.c.now.atoms sets are) c.in_ok-slices.slices.items (rw c.deref.ensures.value at c.in_ok-slices.ensures);
+      variable_free = IsFront-same _ _ (NamesNothingAt-sets c.args.c.now.atoms sets are) c.in_ok-slices.slices.items
+          (rw c.deref.ensures.value at c.in_ok-slices.ensures);
       linked = c.in_ok-linked.ensures;
     }

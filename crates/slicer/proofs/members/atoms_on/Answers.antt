@@ -17,11 +17,17 @@ loop-j-preserved c =
     let P : ℕ → Type 0 = HoldsAt (λ (set : VarSet). Meet set c.args.vars) sets in
     let so_far = c.loop-j.invariant in
     elim c.if-meets.branch [
-      | then-meets+in_ok-push w ↦ rw (w.atoms-is, w.in_ok-push.ensures.items) (Lists-kept P j c.loop-j.atoms.items so_far (at_read sets (λ (set : VarSet). Meet set c.args.vars) j (get_or sets j empty) c.loop-j-test.true (get_or_default sets j empty (get_or sets j empty) c.loop-j-test.true) (c.meets.ensures.0 w.if-meets.true)))
-      | else-meets w ↦ rw w.atoms-is (Lists-skipped P j c.loop-j.atoms.items so_far (λ here. let yes = c.meets.ensures.1 (here empty) in let no_more = w.if-meets.false in absurd (cc)))
+      | then-meets+in_ok-push w ↦ rw (w.atoms-is, w.in_ok-push.ensures.items)
+          (Lists-kept P j c.loop-j.atoms.items so_far
+          (at_read sets (λ (set : VarSet). Meet set c.args.vars) j (get_or sets j empty) c.loop-j-test.true
+          (get_or_default sets j empty (get_or sets j empty) c.loop-j-test.true) (c.meets.ensures.0 w.if-meets.true)))
+      | else-meets w ↦ rw w.atoms-is
+          (Lists-skipped P j c.loop-j.atoms.items so_far
+          (λ here. let yes = c.meets.ensures.1 (here empty) in let no_more = w.if-meets.false in absurd (cc)))
     ]
 
 pub returns : goal.returns
 returns c =
     let end : c.loop-j.j ≡ length c.args.sets.now = omega arith in
-    subst (λ (n : ℕ). Lists (Below (HoldsAt (λ (set : VarSet). Meet set c.args.vars) c.args.sets.now) n) c.loop-j.atoms.items) end c.loop-j.invariant
+    subst (λ (n : ℕ). Lists (Below (HoldsAt (λ (set : VarSet). Meet set c.args.vars) c.args.sets.now) n)
+    c.loop-j.atoms.items) end c.loop-j.invariant

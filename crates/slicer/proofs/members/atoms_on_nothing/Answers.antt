@@ -17,8 +17,14 @@ loop-j-preserved c =
     let P : ℕ → Type 0 = HoldsAt IsVoid sets in
     let so_far = c.loop-j.invariant in
     elim c.if-is_empty.branch [
-      | then-is_empty+in_ok-push w ↦ rw (w.atoms-is, w.in_ok-push.ensures.items) (Lists-kept P j c.loop-j.atoms.items so_far (at_read sets IsVoid j (get_or sets j empty) c.loop-j-test.true (get_or_default sets j empty (get_or sets j empty) c.loop-j-test.true) (c.is_empty.ensures.0 w.if-is_empty.true)))
-      | else-is_empty w ↦ rw w.atoms-is (Lists-skipped P j c.loop-j.atoms.items so_far (λ here. let yes = c.is_empty.ensures.1 (here empty) in let no_more = w.if-is_empty.false in absurd (cc)))
+      | then-is_empty+in_ok-push w ↦ rw (w.atoms-is, w.in_ok-push.ensures.items)
+          (Lists-kept P j c.loop-j.atoms.items so_far
+          (at_read sets IsVoid j (get_or sets j empty) c.loop-j-test.true
+          (get_or_default sets j empty (get_or sets j empty) c.loop-j-test.true)
+          (c.is_empty.ensures.0 w.if-is_empty.true)))
+      | else-is_empty w ↦ rw w.atoms-is
+          (Lists-skipped P j c.loop-j.atoms.items so_far
+          (λ here. let yes = c.is_empty.ensures.1 (here empty) in let no_more = w.if-is_empty.false in absurd (cc)))
     ]
 
 pub returns : goal.returns

@@ -10,8 +10,11 @@ loop-var-preserved c =
     let P : ℕ → Type 0 = Has c.args.set in
     let so_far = c.loop-var.invariant in
     elim c.if-has.branch [
-      | then-has+in_ok-push w ↦ rw (w.vars-is, w.in_ok-push.ensures.items) (Lists-kept P c.loop-var.var c.loop-var.vars.items so_far (c.has.ensures.0 w.if-has.true))
-      | else-has w ↦ rw w.vars-is (Lists-skipped P c.loop-var.var c.loop-var.vars.items so_far (λ here. let yes = c.has.ensures.1 here in let no_more = w.if-has.false in absurd (cc)))
+      | then-has+in_ok-push w ↦ rw (w.vars-is, w.in_ok-push.ensures.items)
+          (Lists-kept P c.loop-var.var c.loop-var.vars.items so_far (c.has.ensures.0 w.if-has.true))
+      | else-has w ↦ rw w.vars-is
+          (Lists-skipped P c.loop-var.var c.loop-var.vars.items so_far
+          (λ here. let yes = c.has.ensures.1 here in let no_more = w.if-has.false in absurd (cc)))
     ]
 
 pub returns : goal.returns

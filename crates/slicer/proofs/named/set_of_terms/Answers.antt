@@ -4,7 +4,9 @@ use Rattle.slicer.proofs.named.set_of_terms.Goals as goal
 
 pub loop-term-preserved : goal.loop-term-preserved
 loop-term-preserved c v =
-    let more = Contains-side_vars_more c.args.terms.now c.loop-term.term-index c.term-item.result v c.loop-term-test.true c.term-item.is in
+    let more =
+    Contains-side_vars_more c.args.terms.now c.loop-term.term-index c.term-item.result v c.loop-term-test.true
+    c.term-item.is in
     let so_far = c.loop-term.invariant v in
     let with = c.with_var-set.ensures v in (
       λ has. more.1 (elim (with.0 has) [ inl earlier ↦ inl (so_far.0 earlier) | inr last ↦ inr (cc) ]),

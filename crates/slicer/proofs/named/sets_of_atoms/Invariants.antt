@@ -8,5 +8,6 @@ use Rattle.slicer.proofs.named.sets_of_atoms.Given as goal
 abbrev pub invariant-loop-atom : goal.invariant-loop-atom
 invariant-loop-atom l = record {
   one_each : length l.sets.items ≡ l.atom-index;
-  same : (k : ℕ) (atom : Atom) (set : VarSet) → k < l.atom-index → IsSetOf (get_or l.atoms k atom) (get_or l.sets.items k set);
+  same : (k : ℕ) (atom : Atom) (set : VarSet) → k < l.atom-index
+      → IsSetOf (get_or l.atoms k atom) (get_or l.sets.items k set);
 }

@@ -14,4 +14,6 @@ loop-set-preserved c =
     let empty : VarSet = record { bits = 0 } in
     let set = get_or sets i empty in
     let taken = c.take_in-next.ensures in
-    IsAbsorbed-more sets c.args.reached i c.loop-set.next set c.take_in-next.result c.loop-set-test.true (get_or_default sets i empty set c.loop-set-test.true) c.loop-set.invariant taken.all taken.only taken.keeps taken.larger
+    IsAbsorbed-more sets c.args.reached i c.loop-set.next set c.take_in-next.result c.loop-set-test.true
+    (get_or_default sets i empty set c.loop-set-test.true) c.loop-set.invariant taken.all taken.only taken.keeps
+    taken.larger

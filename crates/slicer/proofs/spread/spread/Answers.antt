@@ -27,7 +27,12 @@ pub returns-then-eq : goal.returns-then-eq
 returns-then-eq c v =
     let sets = c.args.sets.now in
     let reached = c.loop-next.reached in
-    let same : c.absorb-next.result ≡ reached = ap (λ (n : ℕ). let set : VarSet = record { bits = n } in set) ((Decides-eqb c.absorb-next.result.bits reached.bits).0 (sym c.eq.ensures ∙ c.if-eq.true)) in (
+    let same : c.absorb-next.result ≡ reached = ap (λ (n : ℕ). let set : VarSet =
+    record {
+      bits =
+          n;
+    } in set) ((Decides-eqb c.absorb-next.result.bits reached.bits).0 (sym c.eq.ensures ∙ c.if-eq.true)) in (
       c.loop-next.invariant.only v,
-      λ joined. IsReached-closed sets c.args.first reached (rw same at c.absorb-next.ensures.all) c.loop-next.invariant.keeps v joined,
+      λ joined. IsReached-closed sets c.args.first reached
+          (rw same at c.absorb-next.ensures.all) c.loop-next.invariant.keeps v joined,
     )

@@ -1,67 +1,78 @@
-//! What an atom comes to over the variables of its slice.
+//! The canonical form of an atom over the variables of its slice.
 ghost use Rattle.std.specs.Prelude.{◌≡◌, pos, ◌^◌, ◌<◌, ◌≤◌, length, unsigned_abs, All, IfOk, if◌then◌else◌};
 ghost use Rattle.lin_model.specs.Conditions.{AtomNamesBelow};
-ghost use Rattle.lin_model.specs.Form.{IsGcdOf};
+ghost use Rattle.lin_model.specs.Form.{divisor};
 ghost use Rattle.lin_model.specs.KeyAtom.{HasSmallCoefficients};
-ghost use Rattle.canoniser.specs.Forms.{says, divides, divided, alone, ComesTo, IsReduced};
+ghost use Rattle.canoniser.specs.Forms.{divides, divided, alone, reduced, primitive_of, canonical_form};
 ghost use Rattle.lin_model.specs.Quotients.{floor_div, ceil_div};
 ghost use Rattle.canoniser.specs.Limits.{IsOriented};
-ghost use Rattle.canoniser.specs.Meaning.{meaning};
 
 use crate::linear::{Linear, gathered, oriented};
 use lin_model::{Atom, Form, FormTerm, KeyAtom, Op, gcd_of};
 use outside::NoMemory;
 use std::alloc::Global;
 
-/// What an atom comes to.
+/// The canonical form of an atom.
 #[derive(Debug, Drop)]
-pub(crate) enum Outcome {
-    /// It holds wherever it is asked.
-    Always,
+pub(crate) enum AtomForm {
+    /// All integers satisfy the atom.
+    True,
     /// No integers satisfy it.
-    Never,
+    False,
     /// It says the same as this canonical atom.
-    Says(KeyAtom),
+    KeyAtom(KeyAtom),
 }
 
-/// What the atom comes to. `order` are the condition's variables in the order of their numbers in the key.
-pub(crate) fn outcome_of(alloc: Global, order: &[u32], atom: &Atom) -> Result<Outcome, NoMemory>
+/// The canonical form of the atom. `order` are the condition's variables in the order of their numbers in the key.
+pub(crate) fn canonical_form(
+    alloc: Global,
+    order: &[u32],
+    atom: &Atom,
+) -> Result<AtomForm, NoMemory>
     requires few { length order.now ≤ 64 }
     requires in_range { All (λ v. v < 64) order.now }
     requires named { AtomNamesBelow 64 atom.now }
-    ensures { IfOk result (λ outcome. ComesTo order.now atom.now (meaning outcome)) }
+    ensures { IfOk result (λ form. form ≡ canonical_form order.now atom.now) }
 {
     let linear = gathered(alloc, order, atom)?;
     let linear = oriented(alloc, linear)?;
-    if linear.form.is_empty() {
-        return Ok(alone(linear.op, linear.constant));
-    }
-    reduced(alloc, linear)
+    primitive(alloc, linear)
 }
 
-/// What an atom without variables comes to.
-fn alone(op: Op, constant: i64) -> Outcome
-    ensures { meaning result ≡ alone op constant }
+/// The atom divided by the greatest common divisor of its coefficients, if it has any.
+fn primitive(alloc: Global, a: Linear) -> Result<AtomForm, NoMemory>
+    requires { IsOriented a }
+    ensures { IfOk result (λ form. form ≡ primitive_of a) }
+{
+    if a.form.is_empty() {
+        return Ok(alone(a.op, a.constant));
+    }
+    reduced(alloc, a)
+}
+
+/// The form of an atom without variables.
+fn alone(op: Op, constant: i64) -> AtomForm
+    ensures { result ≡ alone op constant }
 {
     if op.passes(constant, 0) {
-        Outcome::Always
+        AtomForm::True
     } else {
-        Outcome::Never
+        AtomForm::False
     }
 }
 
 /// The atom with both sides divided by the greatest common divisor of its coefficients.
-fn reduced(alloc: Global, a: Linear) -> Result<Outcome, NoMemory>
+fn reduced(alloc: Global, a: Linear) -> Result<AtomForm, NoMemory>
     requires some { 0 < length a.form }
     requires limits { IsOriented a }
-    ensures { IfOk result (λ outcome. IsReduced a.form a.op a.constant (meaning outcome)) }
+    ensures { IfOk result (λ form. form ≡ reduced (divisor a.form) a.form a.op a.constant) }
 {
     let divisor = divisor_of(&a.form);
     match a.op {
-        Op::Le => says(alloc, &a, floor_div(a.constant, divisor), divisor),
-        Op::Ge => says(alloc, &a, ceil_div(a.constant, divisor), divisor),
-        Op::Eq => exact(alloc, &a, Outcome::Never, divisor),
-        Op::Ne => exact(alloc, &a, Outcome::Always, divisor),
+        Op::Le => divided_atom(alloc, &a, floor_div(a.constant, divisor), divisor),
+        Op::Ge => divided_atom(alloc, &a, ceil_div(a.constant, divisor), divisor),
+        Op::Eq => exact(alloc, &a, AtomForm::False, divisor),
+        Op::Ne => exact(alloc, &a, AtomForm::True, divisor),
     }
 }
 
@@ -69,49 +80,49 @@ fn reduced(alloc: Global, a: Linear) -> Result<Outcome, NoMemory>
 fn divisor_of(form: &[FormTerm]) -> u64
     requires some { 0 < length form.now }
     requires coefficients { HasSmallCoefficients form.now }
-    ensures greatest { IsGcdOf form.now result }
+    ensures value { result ≡ divisor form.now }
     ensures positive { 0 < result }
     ensures small { result < 2 ^ 40 }
 {
     gcd_of(form)
 }
 
-/// The quotient where the divisor divides the constant, and `otherwise` where it doesn't.
-fn exact(alloc: Global, a: &Linear, otherwise: Outcome, divisor: u64) -> Result<Outcome, NoMemory>
+/// The quotient where `gcd`, the divisor of the form, divides the constant, and `otherwise` where it doesn't.
+fn exact(alloc: Global, a: &Linear, otherwise: AtomForm, gcd: u64) -> Result<AtomForm, NoMemory>
     requires some { 0 < length a.now.form }
     requires limits { IsOriented a.now }
-    requires greatest { IsGcdOf a.now.form divisor }
-    requires positive { 0 < divisor }
-    requires small { divisor < 2 ^ 40 }
-    ensures { IfOk result (λ outcome. meaning outcome ≡ (if divides divisor a.now.constant then says (record {
-      form = divided divisor a.now.form;
+    requires value { gcd ≡ divisor a.now.form }
+    requires positive { 0 < gcd }
+    requires small { gcd < 2 ^ 40 }
+    ensures { IfOk result (λ form. form ≡ (if divides gcd a.now.constant then AtomForm.KeyAtom (record {
+      form = divided gcd a.now.form;
       op = a.now.op;
-      constant = floor_div a.now.constant divisor;
-    }) else meaning otherwise)) }
+      constant = floor_div a.now.constant gcd;
+    }) else otherwise)) }
 {
-    if divides(divisor, a.constant) {
-        says(alloc, a, floor_div(a.constant, divisor), divisor)
+    if divides(gcd, a.constant) {
+        divided_atom(alloc, a, floor_div(a.constant, gcd), gcd)
     } else {
         Ok(otherwise)
     }
 }
 
 /// The canonical atom of the divided coefficients and this constant.
-fn says(alloc: Global, a: &Linear, constant: i64, divisor: u64) -> Result<Outcome, NoMemory>
+fn divided_atom(alloc: Global, a: &Linear, constant: i64, gcd: u64) -> Result<AtomForm, NoMemory>
     requires some { 0 < length a.now.form }
     requires limits { IsOriented a.now }
-    requires greatest { IsGcdOf a.now.form divisor }
-    requires positive { 0 < divisor }
-    requires small { divisor < 2 ^ 40 }
+    requires value { gcd ≡ divisor a.now.form }
+    requires positive { 0 < gcd }
+    requires small { gcd < 2 ^ 40 }
     requires constant { unsigned_abs constant < 2 ^ 50 }
-    ensures { IfOk result (λ outcome. meaning outcome ≡ says (record {
-      form = divided divisor a.now.form;
+    ensures { IfOk result (λ form. form ≡ AtomForm.KeyAtom (record {
+      form = divided gcd a.now.form;
       op = a.now.op;
       constant = constant;
     })) }
 {
-    let form = Form::new(divided(alloc, &a.form, divisor)?);
-    Ok(Outcome::Says(KeyAtom::new(form, a.op, constant).unwrap()))
+    let form = Form::new(divided(alloc, &a.form, gcd)?);
+    Ok(AtomForm::KeyAtom(KeyAtom::new(form, a.op, constant).unwrap()))
 }
 
 /// The coefficients divided by a number that divides each.
