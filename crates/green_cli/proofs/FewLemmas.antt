@@ -8,8 +8,8 @@ use Rattle.lin_model.specs.Conditions.{PlainCondition}
 use Rattle.lin_model.specs.Lists.{within_from_IsSomeAnd}
 use Rattle.slicer.specs.Slices.{PlainSlice, AreClasses, least}
 use Rattle.pipeline.specs.Answers.{IsRightAnswer, IsRightVerdict, Leaves}
-use Rattle.pipeline.specs.declared.answer.Told.{Told}
-use Rattle.pipeline.specs.declared.answer.Told.TheVariants.{Sat, UnsatAtom, UnsatSlice, Unknown}
+use Rattle.pipeline.specs.declared.answer.Verdict.{Verdict}
+use Rattle.pipeline.specs.declared.answer.Verdict.TheVariants.{Sat, UnsatAtom, UnsatSlice, Unknown}
 use Rattle.pipeline.specs.declared.answer.PlainPart.{PlainPart}
 use Rattle.pipeline.specs.declared.answer.PlainPart.TheVariants.{Solved, Open}
 use Rattle.pipeline.specs.declared.answer.Plain.{Plain}
@@ -38,7 +38,7 @@ classes_few q (slice ∷ slices) are =
     omega (arith, above, below)
 
 -- no slice has more than one part
-parts_within : (budget : ℕ) (q : PlainCondition) (classes : List PlainSlice) (verdict : Told) (parts : List PlainPart) → IsRightVerdict budget q classes verdict parts → length parts ≤ length classes
+parts_within : (budget : ℕ) (q : PlainCondition) (classes : List PlainSlice) (verdict : Verdict) (parts : List PlainPart) → IsRightVerdict budget q classes verdict parts → length parts ≤ length classes
 parts_within budget q classes (Sat values) parts right = omega (arith, right.asked)
 parts_within budget q classes (UnsatAtom j) parts right = omega (arith, ap length right.none_asked)
 parts_within budget q classes (UnsatSlice s) parts right = omega (arith, right.asked, within_from_IsSomeAnd classes _ s right.refuted)

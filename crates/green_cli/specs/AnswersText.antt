@@ -4,8 +4,8 @@ use Rattle.std.specs.List.{AllZip}
 use Rattle.lin_model.specs.Terms.{PlainVar}
 use Rattle.lin_model.specs.Conditions.{PlainCondition}
 use Rattle.lin_text.specs.Spelling.{line, integer}
-use Rattle.pipeline.specs.declared.answer.Told.{Told}
-use Rattle.pipeline.specs.declared.answer.Told.TheVariants.{Sat, UnsatAtom, UnsatSlice, Unknown}
+use Rattle.pipeline.specs.declared.answer.Verdict.{Verdict}
+use Rattle.pipeline.specs.declared.answer.Verdict.TheVariants.{Sat, UnsatAtom, UnsatSlice, Unknown}
 use Rattle.pipeline.specs.declared.answer.PlainPart.{PlainPart}
 use Rattle.pipeline.specs.declared.answer.PlainPart.TheVariants.{Solved, Open}
 use Rattle.pipeline.specs.declared.answer.Plain.{Plain}
@@ -21,7 +21,7 @@ model_text (var ∷ vars) [] = []
 model_text (var ∷ vars) (value ∷ values) = value_text var value ++ model_text vars values
 
 -- a verdict; numbers of atoms and slices count from 1
-unfoldable pub verdict_text : List PlainVar → Told → List ℕ
+unfoldable pub verdict_text : List PlainVar → Verdict → List ℕ
 verdict_text vars (Sat values) = codes "sat" ++ model_text vars values
 verdict_text vars (UnsatAtom atom) = codes "unsat atom " ++ decimal (atom + 1)
 verdict_text vars (UnsatSlice slice) = codes "unsat slice " ++ decimal (slice + 1)

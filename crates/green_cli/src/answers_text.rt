@@ -6,7 +6,7 @@ ghost use Rattle.green_cli.specs.AnswersText.{answers_text, executors_text, scri
 use lin_model::{Condition, Script, Session, Var};
 use lin_text::{push_integer, push_number, push_str};
 use outside::NoMemory;
-use pipeline::{Plain, PlainPart, Told};
+use pipeline::{Plain, PlainPart, Verdict};
 use sqlite_items::Items;
 use std::alloc::Global;
 
@@ -97,17 +97,17 @@ fn push_answer(
 }
 
 #[tactic(auto, unfolding(crate::specs::AnswersText::verdict_text))]
-fn push_verdict(out: &mut Vec<u8>, vars: &[Var], verdict: &Told) -> Result<(), NoMemory>
+fn push_verdict(out: &mut Vec<u8>, vars: &[Var], verdict: &Verdict) -> Result<(), NoMemory>
     ensures { OnOk result (out.new.items ≡ out.old.items ++ verdict_text vars.now verdict.now) }
 {
     match verdict {
-        Told::Sat(values) => {
+        Verdict::Sat(values) => {
             push_str(out, "sat")?;
             push_model(out, vars, values.as_slice())
         }
-        Told::UnsatAtom(atom) => push_numbered(out, "unsat atom ", *atom),
-        Told::UnsatSlice(slice) => push_numbered(out, "unsat slice ", *slice),
-        Told::Unknown(slice) => push_numbered(out, "unknown slice ", *slice),
+        Verdict::UnsatAtom(atom) => push_numbered(out, "unsat atom ", *atom),
+        Verdict::UnsatSlice(slice) => push_numbered(out, "unsat slice ", *slice),
+        Verdict::Unknown(slice) => push_numbered(out, "unknown slice ", *slice),
     }
 }
 

@@ -13,8 +13,10 @@ mod solve;
 mod words;
 
 pub use fault::Fault;
-pub use laws::{commands_are_unique, lines_ask, lines_ask_nothing};
+pub use laws::{
+    commands_are_unique, lines_ask, lines_ask_nothing, statuses_of_solve, statuses_of_words,
+};
 pub use outcome::{Outcome, Report};
-pub use refusal::tell;
+pub use refusal::write_fault;
 pub use run::{green, run_once};
 pub use words::{Budget, Command, WordsFault, read_words};

@@ -16,7 +16,7 @@ use Rattle.box_solver.specs.Answer.{IsAnswer}
 use Rattle.pipeline.specs.declared.slice_keys.SliceKey.{SliceKey}
 use Rattle.pipeline.specs.declared.answer.PlainPart.{PlainPart}
 use Rattle.pipeline.specs.declared.answer.PlainPart.TheVariants.{Solved, Open}
-use Rattle.pipeline.specs.declared.answer.Told.TheVariants.{UnsatSlice}
+use Rattle.pipeline.specs.declared.answer.Verdict.TheVariants.{UnsatSlice}
 use Rattle.pipeline.specs.Answers.{IsModelOf, IsRefuted, IsSpentOn}
 use Rattle.pipeline.specs.Asking.{IsAsked}
 use Rattle.pipeline.specs.Keyed.{IsKeyed, AreKeyed}

@@ -7,8 +7,8 @@ use Rattle.std.proofs.lemmas.Slice.Zip.{AllZip-long}
 use Rattle.lin_model.specs.Conditions.{PlainCondition}
 use Rattle.lin_model.specs.Lists.{within_from_IsSomeAnd}
 use Rattle.slicer.specs.Slices.{PlainSlice}
-use Rattle.pipeline.specs.declared.answer.Told.{Told}
-use Rattle.pipeline.specs.declared.answer.Told.TheVariants.{Sat, UnsatAtom, UnsatSlice, Unknown}
+use Rattle.pipeline.specs.declared.answer.Verdict.{Verdict}
+use Rattle.pipeline.specs.declared.answer.Verdict.TheVariants.{Sat, UnsatAtom, UnsatSlice, Unknown}
 use Rattle.pipeline.specs.declared.answer.PlainPart.{PlainPart}
 use Rattle.pipeline.specs.declared.answer.PlainPart.TheVariants.{Solved, Open}
 use Rattle.pipeline.specs.Answers.{Leaves, IsOpen, IsRightVerdict}
@@ -58,7 +58,7 @@ none_open parts s all some = of (slice_get parts s) refl some
         absurd (cc (here, solved))
 
 -- where the budget is at least the room of each key that was asked, each part was solved
-all_solved : (budget : ℕ) (q : PlainCondition) (classes : List PlainSlice) (verdict : Told) (parts : List PlainPart) → IsRightVerdict budget q classes verdict parts → All (HasRoomWithin budget q) (take (length parts) classes) → All (λ part. part ≡ Solved) parts
+all_solved : (budget : ℕ) (q : PlainCondition) (classes : List PlainSlice) (verdict : Verdict) (parts : List PlainPart) → IsRightVerdict budget q classes verdict parts → All (HasRoomWithin budget q) (take (length parts) classes) → All (λ part. part ≡ Solved) parts
 all_solved budget q classes (Sat values) parts right within = right.solved
 all_solved budget q classes (UnsatAtom j) parts right within = λ k d lt. absurd (omega (arith, lt, ap length right.none_asked))
 all_solved budget q classes (UnsatSlice s) parts right within =
@@ -69,7 +69,7 @@ all_solved budget q classes (Unknown s) parts right within =
     (read_front (HasRoomWithin budget q) classes (length parts) k no_slice within lt (omega (arith, lt, AllZip-long (Leaves budget q) classes parts right.left)))
 
 -- and then the verdict isn't unknown
-not_unknown : (budget : ℕ) (q : PlainCondition) (classes : List PlainSlice) (verdict : Told) (parts : List PlainPart) → IsRightVerdict budget q classes verdict parts → All (λ part. part ≡ Solved) parts → (s : ℕ) → verdict ≢ Unknown s
+not_unknown : (budget : ℕ) (q : PlainCondition) (classes : List PlainSlice) (verdict : Verdict) (parts : List PlainPart) → IsRightVerdict budget q classes verdict parts → All (λ part. part ≡ Solved) parts → (s : ℕ) → verdict ≢ Unknown s
 not_unknown budget q classes (Sat values) parts right all s = λ e. absurd (cc)
 not_unknown budget q classes (UnsatAtom j) parts right all s = λ e. absurd (cc)
 not_unknown budget q classes (UnsatSlice t) parts right all s = λ e. absurd (cc)

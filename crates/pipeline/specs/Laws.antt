@@ -6,7 +6,7 @@ use Rattle.lin_model.specs.KeyAtom.{PlainKeyAtom}
 use Rattle.slicer.specs.Slices.{PlainSlice, AreClasses}
 use Rattle.canoniser.specs.Keys.{IsKeyOf}
 use Rattle.refutation.specs.SearchTree.{room}
-use Rattle.pipeline.specs.declared.answer.Told.TheVariants.{Unknown}
+use Rattle.pipeline.specs.declared.answer.Verdict.TheVariants.{Unknown}
 use Rattle.pipeline.specs.declared.answer.PlainPart.TheVariants.{Solved}
 use Rattle.pipeline.specs.declared.answer.Plain.{Plain}
 use Rattle.pipeline.specs.Answers.{IsRightAnswer}

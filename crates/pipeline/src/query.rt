@@ -2,7 +2,7 @@
 ghost use Rattle.std.specs.Prelude.{◌≡◌, ◌≤◌, IfOk};
 ghost use Rattle.pipeline.specs.Answers.{IsRightAnswer};
 
-use crate::answer::{Plain, Told};
+use crate::answer::{Plain, Verdict};
 use crate::asking::ask_all;
 use crate::slice_keys::{Keyed, keys_of};
 use box_solver::TreeRegion;
@@ -30,7 +30,7 @@ pub fn answer_query(
 {
     match keys_of(alloc, query)? {
         Keyed::Never(j) => Ok(Plain {
-            verdict: Told::UnsatAtom(j),
+            verdict: Verdict::UnsatAtom(j),
             parts: Items::new(alloc),
         }),
         Keyed::Keys(keys) => ask_all(alloc, query, &keys, budget, region),

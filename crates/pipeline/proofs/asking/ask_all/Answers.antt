@@ -6,7 +6,7 @@ use Rattle.lin_model.specs.Terms.{value_at}
 use Rattle.pipeline.specs.declared.slice_keys.SliceKey.{SliceKey}
 use Rattle.pipeline.specs.declared.answer.PlainPart.{PlainPart}
 use Rattle.pipeline.specs.declared.answer.PlainPart.TheVariants.{Solved}
-use Rattle.pipeline.specs.declared.answer.Told.TheVariants.{Sat, UnsatSlice}
+use Rattle.pipeline.specs.declared.answer.Verdict.TheVariants.{Sat, UnsatSlice}
 use Rattle.pipeline.specs.Answers.{IsModelOf, IsRefuted, IsSpentOn, IsRightAnswer, Replies}
 use Rattle.pipeline.proofs.KeyedLemmas.{front_more}
 use Rattle.pipeline.proofs.AskLemmas.{none_left, ask_model, ask_open, few_classes, asked_as, none_if, refilled}
