@@ -1,5 +1,6 @@
 -- What follows of a call that solved its session, or was refused.
-use Rattle.std.proofs.Common.{◌≡◌, ◌≢◌, ◌⊎◌, ℕ, zero, suc, ◌<◌, ◌≤◌, ◌+◌, Bool, true, false, List, [], ◌∷◌, length, get_or}
+use Rattle.std.proofs.Common.{◌≡◌, ◌≢◌, ◌⊎◌, ℕ, zero, suc, ◌<◌, ◌≤◌, ◌+◌, Bool, true, false, List, [], ◌∷◌, length}
+use Rattle.std.proofs.Common.{get_or}
 use Rattle.std.proofs.Common.{length-append, Option, Some, arith, refl, sym, ap, subst, ◌∙◌, inl, inr, ⊎_elim}
 use Rattle.std.specs.Prelude.{if◌then◌else◌}
 use Rattle.std.specs.List.{AllZip, Any, list_any}
@@ -13,11 +14,11 @@ use Rattle.pipeline.specs.Laws.{Suffices, SufficientDecides}
 use Rattle.pipeline.specs.declared.answer.Plain.{Plain}
 use Rattle.pipeline.specs.declared.answer.Verdict.{Verdict}
 use Rattle.pipeline.specs.declared.answer.Verdict.TheVariants.{Sat, UnsatAtom, UnsatSlice, Unknown}
-use Rattle.green_cli.specs.Call.{Call, Change, KeepsDisks, NothingFails}
+use Rattle.green_cli.specs.Call.{Call, KeepsDisks, NothingFails}
 use Rattle.green_cli.specs.AnswersText.{answers_text}
-use Rattle.green_cli.specs.Input.{Consumes, Drains, GivesSession, InputWasRead, TakesAtMost, WasRead, max_input}
+use Rattle.green_cli.specs.Input.{Consumes, Drains, GivesSession, InputWasRead, TakesAtMost, max_input}
 use Rattle.green_cli.specs.Solve.{AreRight, IsDoneOrStarved, IsSolved, Solves, SufficesFor, solve_cause}
-use Rattle.green_cli.specs.Statuses.{Ends, FaultIsWritten, IsEmpty, IsRefused, IsWrittenAs, WritesFault, WritesResult}
+use Rattle.green_cli.specs.Statuses.{Ends, FaultIsWritten, IsEmpty, IsRefused, IsWrittenAs}
 use Rattle.green_cli.specs.Statuses.{has_unknown, is_unknown, run_status, status_of}
 use Rattle.green_cli.specs.declared.fault.Fault.{Fault}
 use Rattle.green_cli.specs.declared.fault.Fault.TheVariants.{Usage, Text, Read, NoMemory, TooLong}
@@ -59,6 +60,7 @@ run_status_is report = go (has_unknown report.answers)
   where
     status : Bool → ℕ
     status b = if b then 3 else 0
+
     go : (b : Bool) → (status b ≡ 0) ⊎ (status b ≡ 3)
     go true = inr refl
     go false = inl refl
@@ -68,6 +70,7 @@ run_status_unknown report = go (has_unknown report.answers)
   where
     status : Bool → ℕ
     status b = if b then 3 else 0
+
     go : (b : Bool) → status b ≡ 3 → b ≡ true
     go true e = refl
     go false e = absurd (omega (arith, e))
@@ -95,7 +98,8 @@ only_memory law call TooLong gives same cause =
     (subst (λ (o : Option (List ℕ)). Consumes o call.source.after.left cause.bytes) gives.told cause.given) in
     absurd (omega (arith, taken, cause.long, gives.short))
 
-done : {D : Type 0} (budget : ℕ) (call : Call D) → IsSolved budget call → NothingFails call → IsDoneOrStarved call.status
+done : {D : Type 0} (budget : ℕ) (call : Call D) → IsSolved budget call → NothingFails call
+    → IsDoneOrStarved call.status
 done budget call solved nothing =
     ⊎_elim
     (λ whole. ⊎_elim (λ zero. inl (whole.1 ∙ zero)) (λ three. inr (inl (whole.1 ∙ three))) (run_status_is call.report))
@@ -104,14 +108,18 @@ done budget call solved nothing =
 -- ---- budgets that suffice
 
 -- what two relations of the items exclude is true of none of them
-none_of_zip : {A B : Type 0} (R S : A → B → Type 0) (P : B → Type 0) → ((x : A) (y : B) → R x y → S x y → P y → ⊥) → (xs : List A) (ys : List B) → AllZip R xs ys → AllZip S xs ys → (k : ℕ) (y : B) → k < length ys → get_or ys k y ≡ y → P y → ⊥
+none_of_zip : {A B : Type 0} (R S : A → B → Type 0) (P : B → Type 0) → ((x : A) (y : B) → R x y → S x y → P y → ⊥)
+    → (xs : List A) (ys : List B) → AllZip R xs ys → AllZip S xs ys → (k : ℕ) (y : B) → k < length ys
+    → get_or ys k y ≡ y → P y → ⊥
 none_of_zip R S P excluded [] [] r s k y within is p = absurd (omega (arith, within))
 none_of_zip R S P excluded [] (z ∷ ys) r s k y within is p = absurd r
 none_of_zip R S P excluded (x ∷ xs) [] r s k y within is p = absurd r
 none_of_zip R S P excluded (x ∷ xs) (z ∷ ys) r s zero y within is p = excluded x z r.0 s.0 (subst P (sym is) p)
-none_of_zip R S P excluded (x ∷ xs) (z ∷ ys) r s (suc k) y within is p = none_of_zip R S P excluded xs ys r.1 s.1 k y (omega (arith, within)) is p
+none_of_zip R S P excluded (x ∷ xs) (z ∷ ys) r s (suc k) y within is p =
+    none_of_zip R S P excluded xs ys r.1 s.1 k y (omega (arith, within)) is p
 
-zip_excludes : {A B : Type 0} (R S : A → B → Type 0) (P : B → Type 0) → ((x : A) (y : B) → R x y → S x y → P y → ⊥) → (xs : List A) (ys : List B) → AllZip R xs ys → AllZip S xs ys → Any P ys → ⊥
+zip_excludes : {A B : Type 0} (R S : A → B → Type 0) (P : B → Type 0) → ((x : A) (y : B) → R x y → S x y → P y → ⊥)
+    → (xs : List A) (ys : List B) → AllZip R xs ys → AllZip S xs ys → Any P ys → ⊥
 zip_excludes R S P excluded xs ys r s any = none_of_zip R S P excluded xs ys r s any.0 any.1 any.2 any.3 any.4
 
 verdict_known : (verdict : Verdict) → ((s : ℕ) → verdict ≢ Unknown s) → is_unknown verdict ≡ true → ⊥

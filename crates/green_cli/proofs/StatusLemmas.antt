@@ -1,26 +1,27 @@
 -- What the statuses tell.
-use Rattle.std.proofs.Common.{◌≡◌, ◌≢◌, ◌⊎◌, ◌↔◌, ◌<◌, ◌≤◌, ◌+◌, ℕ, Bool, true, false, List, [], ◌++◌, length}
-use Rattle.std.proofs.Common.{Option, Some, length-append, true≢false, arith, refl, sym, ap, subst, ◌∙◌, inl, inr, ⊎_elim}
+use Rattle.std.proofs.Common.{◌≡◌, ◌≢◌, ◌⊎◌, ◌≤◌, ℕ, Bool, true, List, length}
+use Rattle.std.proofs.Common.{Option, Some, length-append, true≢false, arith, sym, ap, subst, ◌∙◌, inl, inr}
+use Rattle.std.proofs.Common.{⊎_elim}
 use Rattle.std.specs.Prelude.{if◌then◌else◌}
 use Rattle.clap.specs.Words.{Text}
-use Rattle.lin_model.specs.Conditions.{PlainCondition}
 use Rattle.session_text.specs.Sessions.{SpellsSession}
 use Rattle.green_cli.specs.Call.{Call}
-use Rattle.green_cli.specs.Commands.{Does, DoesAsAsked, RefusesWords, words_cause}
-use Rattle.green_cli.specs.Input.{Consumes, Drains, GivesSession, InputIsTooLong, ReadFailed, WasRead, max_input}
-use Rattle.green_cli.specs.Lines.{line_of, text_line}
+use Rattle.green_cli.specs.Commands.{Does, DoesAsAsked, words_cause}
+use Rattle.green_cli.specs.Input.{Consumes, Drains, InputIsTooLong, ReadFailed, WasRead}
+use Rattle.green_cli.specs.Lines.{line_of}
 use Rattle.green_cli.specs.Solve.{IsSolved, Solves, solve_cause}
 use Rattle.green_cli.specs.StatusLaws.{GivesNoSession, GivesTooMuch, IsAnswered, SourceHolds, StatusesOfSolve}
 use Rattle.green_cli.specs.StatusLaws.{StatusesOfWords, TellsFault, text_of}
-use Rattle.green_cli.specs.Statuses.{Ends, IsCutOff, IsRefused, Takes, WritesFault, Writes, has_unknown, run_status}
+use Rattle.green_cli.specs.Statuses.{IsCutOff, IsRefused, Takes, Writes, has_unknown, run_status}
 use Rattle.green_cli.specs.Statuses.{status_of}
-use Rattle.green_cli.specs.Words.{AreCommand}
+use Rattle.green_cli.specs.Laws.{CommandsAreUnique}
+use Rattle.green_cli.specs.Words.{AreCommand, IsCommand}
 use Rattle.green_cli.specs.declared.fault.Fault.{Fault}
 use Rattle.green_cli.specs.declared.fault.Fault.TheVariants.{Usage, Text as OfText, Read, NoMemory, TooLong}
 use Rattle.green_cli.specs.declared.outcome.Report.{Report}
 use Rattle.green_cli.specs.declared.words.Command.{Command}
 use Rattle.green_cli.specs.declared.words.Command.TheVariants.{Solve}
-use Rattle.green_cli.proofs.CompleteLemmas.{fault_not_unknown, run_status_is, run_status_unknown}
+use Rattle.green_cli.proofs.CompleteLemmas.{run_status_is, run_status_unknown}
 
 fault_not_answered : (fault : Fault) (status : ℕ) → status ≡ status_of fault → IsAnswered status → ⊥
 fault_not_answered Usage status number answered = grind (arith, number, answered)
@@ -53,7 +54,8 @@ module _ {D : Type 0} (budget : ℕ) (call : Call D) where
   solved_answered : IsSolved budget call → IsAnswered call.status
   solved_answered solved =
       ⊎_elim
-      (λ whole. ⊎_elim (λ zero. inl (whole.1 ∙ zero)) (λ three. inr (inl (whole.1 ∙ three))) (run_status_is call.report))
+      (λ whole. ⊎_elim (λ zero. inl (whole.1 ∙ zero)) (λ three. inr (inl (whole.1 ∙ three)))
+      (run_status_is call.report))
       (λ cut. inr (inr cut.1)) solved.result
 
   answered_solved : Solves budget call → IsAnswered call.status → IsSolved budget call
@@ -164,11 +166,11 @@ module _ {D : Type 0} (budget : ℕ) (call : Call D) where
   long_alone solves gives holds =
       ⊎_elim
       (λ solved. absurd (omega (
-      arith,
-      ap length (read_is call gives.bytes solved.input.bytes gives.told solved.input.read),
-      solved.input.read.short,
-      gives.long,
-    )))
+        arith,
+        ap length (read_is call gives.bytes solved.input.bytes gives.told solved.input.read),
+        solved.input.read.short,
+        gives.long,
+      )))
       (λ refused. go refused.fault refused.reason refused.writes.number) solves.outcome
     where
       go : (fault : Fault) → solve_cause call fault → call.status ≡ status_of fault
@@ -227,10 +229,30 @@ module _ {D : Type 0} (words : List Text) (call : Call D) where
       go NoMemory cause number = inr number
       go TooLong cause number = absurd cause
 
-  pub words_statuses : DoesAsAsked words call → StatusesOfWords words call
-  words_statuses does = record {
+  asked_refused : (command : Command) → IsCommand words command → IsRefused (words_cause words) call
+      → call.status ≡ 16
+  asked_refused command asked refused = go refused.fault refused.reason refused.writes.number
+    where
+      go : (fault : Fault) → words_cause words fault → call.status ≡ status_of fault → call.status ≡ 16
+      go Usage cause number = absurd (cause (record { command = command; asked = asked }))
+      go (OfText fault) cause number = absurd cause
+      go Read cause number = absurd cause
+      go NoMemory cause number = number
+      go TooLong cause number = absurd cause
+
+  asked_done : CommandsAreUnique → DoesAsAsked words call → (command : Command) → IsCommand words command
+      → Does command call ⊎ (call.status ≡ 16)
+  asked_done unique does command asked =
+      ⊎_elim (λ refuses. inr (asked_refused command asked refuses.refused))
+      (λ done. inl (subst (λ (c : Command). Does c call) (unique words done.command command done.asked asked)
+      done.does))
+      does
+
+  pub words_statuses : CommandsAreUnique → DoesAsAsked words call → StatusesOfWords words call
+  words_statuses unique does = record {
     usage = λ ten. ⊎_elim (λ refuses. refused_usage refuses.refused ten)
         (λ done. absurd (command_not_usage done.command done.does ten)) does;
     is_usage = λ none. ⊎_elim (λ refuses. (refuses, refused_status refuses.refused))
         (λ done. absurd (none (record { command = done.command; asked = done.asked }))) does;
+    does = asked_done unique does;
   }

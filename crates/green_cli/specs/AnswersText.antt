@@ -73,14 +73,16 @@ HaveAnswers session answers = AllZip (λ queries script. length queries ≡ leng
 unfoldable pub script_text : ℕ → List PlainCondition → List Plain → List ℕ
 script_text place [] answers = []
 script_text place (q ∷ queries) [] = []
-script_text place (q ∷ queries) (answer ∷ answers) = line (answer_text place q answer) ++ script_text (place + solved_in answer.parts) queries answers
+script_text place (q ∷ queries) (answer ∷ answers) =
+    line (answer_text place q answer) ++ script_text (place + solved_in answer.parts) queries answers
 
 -- the answers of all executors
 unfoldable pub executors_text : ℕ → List (List PlainCondition) → List (List Plain) → List ℕ
 executors_text place [] scripts = []
 executors_text place (queries ∷ executors) [] = []
 executors_text place (queries ∷ executors) (answers ∷ scripts) =
-    line (codes "executor") ++ script_text place queries answers ++ executors_text (place + solved_count answers) executors scripts
+    line (codes "executor") ++ script_text place queries answers ++ executors_text (place + solved_count answers)
+    executors scripts
 
 -- the whole text
 unfoldable pub answers_text : List (List PlainCondition) → List (List Plain) → List ℕ

@@ -30,7 +30,8 @@ kind_text kind.NoMemory = []
 -- a fault of a text: its line, its column and its kind
 unfoldable pub text_line : SessionFault → List ℕ
 text_line fault =
-    line (codes "fault text " ++ decimal fault.line ++ codes " " ++ decimal fault.column ++ codes " " ++ kind_text fault.kind)
+    line (codes "fault text " ++ decimal fault.line ++ codes " " ++ decimal fault.column ++ codes " " ++ kind_text
+    fault.kind)
 
 -- the line of each fault
 unfoldable pub line_of : Fault → List ℕ

@@ -20,7 +20,8 @@ AreRight budget session answers =
 -- for each query the budget is at least the room of the key of each slice that was asked
 abbrev pub SufficesFor : ℕ → Report → Type 0
 SufficesFor budget report =
-    AllZip (λ queries script. AllZip (λ q answer. Suffices budget q answer) queries script) report.session report.answers
+    AllZip (λ queries script. AllZip (λ q answer. Suffices budget q answer) queries script) report.session
+    report.answers
 
 -- The session was answered: the input, read to its end, spells the session of the report; each of its queries has a
 -- right answer there; and the text of the answers is what was written.

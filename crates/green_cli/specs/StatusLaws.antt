@@ -8,13 +8,14 @@ use Rattle.lin_text.specs.declared.fault.SessionFault.{SessionFault}
 use Rattle.session_text.specs.Sessions.{SpellsSession}
 use Rattle.green_cli.specs.AnswersText.{answers_text}
 use Rattle.green_cli.specs.Call.{Call}
-use Rattle.green_cli.specs.Commands.{DoesAsAsked, RefusesWords}
+use Rattle.green_cli.specs.Commands.{Does, DoesAsAsked, RefusesWords}
 use Rattle.green_cli.specs.Input.{InputIsFaulty, InputIsTooLong, ReadFailed, max_input}
 use Rattle.green_cli.specs.Lines.{text_line}
 use Rattle.green_cli.specs.Solve.{IsSolved, Solves, solve_cause}
 use Rattle.green_cli.specs.Statuses.{IsCutOff, IsRefused, Takes, Writes, has_unknown}
-use Rattle.green_cli.specs.Words.{AreCommand}
+use Rattle.green_cli.specs.Words.{AreCommand, IsCommand}
 use Rattle.green_cli.specs.declared.outcome.Report.{Report}
+use Rattle.green_cli.specs.declared.words.Command.{Command}
 
 -- the statuses of `solve` where the session was answered
 abbrev pub IsAnswered : ℕ → Type 0
@@ -67,10 +68,11 @@ pub record StatusesOfSolve {D : Type 0} (budget : ℕ) (call : Call D) : Type 0 
 abbrev pub SolveHasStatuses : Type 0 → Type 0
 SolveHasStatuses D = (budget : ℕ) (call : Call D) → Solves budget call → StatusesOfSolve budget call
 
--- 10 comes exactly where the words ask for no command, but for want of memory
+-- but for want of memory, 10 comes exactly where the words ask for no command, and a command that they ask for is done
 pub record StatusesOfWords {D : Type 0} (words : List Text) (call : Call D) : Type 0 where
   pub usage : call.status ≡ 10 → ¬ AreCommand words
   pub is_usage : ¬ AreCommand words → RefusesWords words call × ((call.status ≡ 10) ⊎ (call.status ≡ 16))
+  pub does : (command : Command) → IsCommand words command → Does command call ⊎ (call.status ≡ 16)
 
 -- every call of the program has these statuses
 abbrev pub WordsHaveStatuses : Type 0 → Type 0

@@ -89,8 +89,8 @@ pub record FaultIsWritten (fault : Fault) (sink : Change SinkState) (status : â„
   pub for_it : IsWrittenAs fault written
   pub writes : WritesFault written sink status
 
--- The call was refused for a fault that has its cause, which the command gives: its status, its line and nothing else to
--- the sink, and an empty report.
+-- The call was refused for a fault that has its cause, which the command gives: its status, its line and nothing else
+-- to the sink, and an empty report.
 pub record IsRefused {D : Type 0} (cause : Fault â†’ Type 0) (call : Call D) : Type 0 where
   pub fault : Fault
   pub reason : cause fault

@@ -1,7 +1,9 @@
 //! Writing the answers to a session.
 ghost use Rattle.std.specs.Prelude.{◌≡◌, ◌++◌, ◌+◌, ◌<◌, ◌^◌, ℕ, length, IfOk, OnOk, decimal};
 ghost use Rattle.lin_text.specs.Spelling.{line};
-ghost use Rattle.green_cli.specs.AnswersText.{answers_text, executors_text, script_text, answer_text, verdict_text, model_text, value_text, parts_text, part_text, new_text, solved_of, solved_in, solved_count, solved_in_all, HaveAnswers};
+ghost use Rattle.green_cli.specs.AnswersText.{answers_text, executors_text, script_text, answer_text, verdict_text};
+ghost use Rattle.green_cli.specs.AnswersText.{model_text, value_text, parts_text, part_text, new_text, solved_of};
+ghost use Rattle.green_cli.specs.AnswersText.{solved_in, solved_count, solved_in_all, HaveAnswers};
 
 use lin_model::{Condition, Script, Session, Var};
 use lin_text::{push_integer, push_number, push_str};

@@ -20,7 +20,8 @@ const PIECE: usize = 65_536;
 /// The session that the bytes of the source spell, read to their end. `Text` is the first fault of bytes that spell
 /// none, `TooLong` comes where there are more than `MAX_INPUT`, and `Read` where the source fails before.
 pub fn take_session<S: Source>(alloc: Global, source: &mut S) -> Result<Session, Fault>
-    ensures read { MatchResult result (λ session. InputWasRead (change (S.state source.old) (S.state source.new)) session)
+    ensures read { MatchResult result
+        (λ session. InputWasRead (change (S.state source.old) (S.state source.new)) session)
         (session_cause (change (S.state source.old) (S.state source.new))) }
     ensures bounded { TakesAtMost (max_input + 1) (change (S.state source.old) (S.state source.new)) }
 {
@@ -31,7 +32,8 @@ pub fn take_session<S: Source>(alloc: Global, source: &mut S) -> Result<Session,
 /// All that the source has left, read in at most one turn a byte. `TooLong` comes where it gives more than `MAX_INPUT`
 /// bytes, and `Read` where it fails before.
 fn read_input<S: Source>(alloc: Global, source: &mut S) -> Result<Vec<u8>, Fault>
-    ensures read { MatchResult result (λ bytes. WasRead (change (S.state source.old) (S.state source.new)) bytes.items)
+    ensures read { MatchResult result
+        (λ bytes. WasRead (change (S.state source.old) (S.state source.new)) bytes.items)
         (input_cause (change (S.state source.old) (S.state source.new))) }
     ensures bounded { TakesAtMost (max_input + 1) (change (S.state source.old) (S.state source.new)) }
 {

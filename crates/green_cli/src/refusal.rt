@@ -10,8 +10,8 @@ use outside::{NoMemory, Sink};
 use std::alloc::Global;
 
 /// Writes the line of a fault, and answers its status. Where memory runs out while the line of a text's fault is made,
-/// they are those of `Fault::NoMemory`, and so are they for a text's fault of the kind `NoMemory`. The status stays where
-/// the sink fails.
+/// they are those of `Fault::NoMemory`, and so are they for a text's fault of the kind `NoMemory`. The status stays
+/// where the sink fails.
 #[tactic(auto, unfolding(crate::specs::Lines::line_of))]
 pub fn write_fault<K: Sink>(alloc: Global, fault: Fault, sink: &mut K) -> u8
     ensures { FaultIsWritten fault (change (K.state sink.old) (K.state sink.new)) result }

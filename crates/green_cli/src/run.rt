@@ -11,8 +11,8 @@ use crate::words::{Command, WordsFault, read_words};
 use outside::{Disk, Gate, Sink, Source};
 use std::alloc::Global;
 
-/// Does what the words ask for, as `run_once` does it. Words that ask for no command are refused with status 10, or with
-/// 16 where memory ran out, and the source is left alone.
+/// Does what the words ask for, as `run_once` does it. Words that ask for no command are refused with status 10, or
+/// with 16 where memory ran out, and the source is left alone.
 pub fn green<S: Source, K: Sink, D: Disk + Send, G: Gate + Sync>(
     alloc: Global,
     words: &[String],
@@ -23,12 +23,12 @@ pub fn green<S: Source, K: Sink, D: Disk + Send, G: Gate + Sync>(
     _gate: &G,
 ) -> Outcome<D>
     ensures does { DoesAsAsked (map string_bytes words.now) (record {
-        source = change (S.state source.old) (S.state source.new);
-        sink = change (K.state sink.old) (K.state sink.new);
-        disk = change disk result.disk;
-        other = change other result.other;
-        status = result.status;
-        report = result.report;
+      source = change (S.state source.old) (S.state source.new);
+      sink = change (K.state sink.old) (K.state sink.new);
+      disk = change disk result.disk;
+      other = change other result.other;
+      status = result.status;
+      report = result.report;
     }) }
     ensures unread { result.status ≡ 10 → source.new ≡ source.old }
 {
@@ -39,16 +39,18 @@ pub fn green<S: Source, K: Sink, D: Disk + Send, G: Gate + Sync>(
     }
 }
 
-/// Does a command, which promises what `Does` says of it: for `solve`, `Solves`.
+/// Does a command, and hands the disks back as they are. The statuses of `solve`:
 ///
-/// Status 0: the whole input spells the session of the report; each answer is right and tells sat or unsat; the sink took
-/// the whole text of the answers. Status 3: the same, but some answer is `Unknown`. Status 13: the sink failed and took a
-/// front of the text.
-/// The others write a line of their own, or a front of it where the sink fails, and leave the report empty. 11: the input
-/// is no session; the line tells its first fault. 12: the source failed. 16: memory ran out. 18: more than 16,777,216
-/// bytes came.
+/// 0: the whole input spells the session of the report; each answer is right and tells sat or unsat; the sink took the
+/// whole text of the answers. 3: the same, but some answer is `Unknown`. 13: the sink failed and took a front of the
+/// text.
+///
+/// The others write a line of their own, or a front of it where the sink fails, and leave the report empty. 11: the
+/// input is no session; the line tells its first fault. 12: the source failed. 16: memory ran out. 18: more than
+/// 16,777,216 bytes came.
+///
 /// A session's text within the limit, and no fault of source or sink, give 0, 3 or 16; and 3 doesn't come where the
-/// budget is at least the room of the key of each slice that was asked. The disks are handed back as they are.
+/// budget is at least the room of the key of each slice that was asked.
 pub fn run_once<S: Source, K: Sink, D: Disk>(
     alloc: Global,
     command: &Command,
@@ -58,12 +60,12 @@ pub fn run_once<S: Source, K: Sink, D: Disk>(
     other: D,
 ) -> Outcome<D>
     ensures { Does command.now (record {
-        source = change (S.state source.old) (S.state source.new);
-        sink = change (K.state sink.old) (K.state sink.new);
-        disk = change disk result.disk;
-        other = change other result.other;
-        status = result.status;
-        report = result.report;
+      source = change (S.state source.old) (S.state source.new);
+      sink = change (K.state sink.old) (K.state sink.new);
+      disk = change disk result.disk;
+      other = change other result.other;
+      status = result.status;
+      report = result.report;
     }) }
 {
     match command {

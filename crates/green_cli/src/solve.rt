@@ -28,12 +28,12 @@ pub fn solve<S: Source, K: Sink, D: Disk>(
     other: D,
 ) -> Outcome<D>
     ensures { Solves budget (record {
-        source = change (S.state source.old) (S.state source.new);
-        sink = change (K.state sink.old) (K.state sink.new);
-        disk = change disk result.disk;
-        other = change other result.other;
-        status = result.status;
-        report = result.report;
+      source = change (S.state source.old) (S.state source.new);
+      sink = change (K.state sink.old) (K.state sink.new);
+      disk = change disk result.disk;
+      other = change other result.other;
+      status = result.status;
+      report = result.report;
     }) }
 {
     spelled_has_no_fault();

@@ -3,7 +3,8 @@ ghost use Rattle.std.specs.Prelude.{◌≡◌, ◌≢◌, ◌↔◌, ◌<◌, �
 ghost use Rattle.std.specs.Prelude.{IsTrue, IfOk, MatchOption, OnOk, codes};
 ghost use Rattle.std.specs.String.{string_bytes};
 ghost use Rattle.clap.specs.Words.{app_of};
-ghost use Rattle.green_cli.specs.Words.{AreCommand, AreTaken, IsCommand, IsNumber, SpellsBudget, solve_line, value_among};
+ghost use Rattle.green_cli.specs.Words.{AreCommand, AreTaken, IsCommand, IsNumber, SpellsBudget, solve_line};
+ghost use Rattle.green_cli.specs.Words.{value_among};
 
 use clap::error::ErrorKind;
 use clap::{Arg, ArgAction};

@@ -17,7 +17,8 @@ pub returns : goal.returns
 unfolding clap_on_literals AreTaken value_among
 returns c = record {
   none = λ asked. let first = (asks_to_solve _ asked).1.first in cc;
-  zero = λ asked. let budget = (asks_to_solve _ asked).1.budget in absurd (omega (arith, budget.number.value, budget.some));
+  zero = λ asked. let budget = (asks_to_solve _ asked).1.budget in absurd
+      (omega (arith, budget.number.value, budget.some));
   twice = λ asked. let taken : false ≡ true = (asks_to_solve _ asked).1.taken in cc;
   help = λ asked. let taken : false ≡ true = (asks_to_solve _ asked).1.taken in cc;
 }

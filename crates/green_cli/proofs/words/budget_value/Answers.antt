@@ -1,4 +1,4 @@
-use Rattle.std.proofs.Common.{◌∙◌, List, codes, map, refl, ⊎_elim}
+use Rattle.std.proofs.Common.{◌∙◌, codes, map, refl, ⊎_elim}
 use Rattle.std.specs.String.{string_bytes}
 use Rattle.clap.specs.Words.{app_of}
 use Rattle.green_cli.specs.Words.{solve_line}
