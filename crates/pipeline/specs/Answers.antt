@@ -14,7 +14,8 @@ use Rattle.refutation.specs.declared.leaf.LeafTerm.{LeafTerm}
 use Rattle.refutation.specs.declared.node.Node.{Node}
 use Rattle.box_solver.specs.Answer.{IsModelTree, IsRefutingTree}
 use Rattle.box_solver.specs.declared.found.Found.{Found}
-use Rattle.box_solver.specs.declared.found.Found.TheVariants.{Model as FoundModel, Refuted as FoundRefuted, Spent as FoundSpent}
+use Rattle.box_solver.specs.declared.found.Found.TheVariants.{Model as FoundModel, Refuted as FoundRefuted}
+use Rattle.box_solver.specs.declared.found.Found.TheVariants.{Spent as FoundSpent}
 use Rattle.pipeline.specs.declared.solving.Reply.{Reply}
 use Rattle.pipeline.specs.declared.solving.Reply.TheVariants.{Model, Refuted, Spent}
 use Rattle.pipeline.specs.declared.answer.Verdict.{Verdict}
@@ -108,8 +109,10 @@ pub record IsFirstOpen (parts : List PlainPart) (s : ℕ) : Type 0 where
   pub here : IsSomeAnd (slice_get parts s) IsOpen
   pub before : (i : ℕ) → i < s → slice_get parts i ≡ Some Solved
 
--- values that make the query hold as written; all slices were asked, and each gave its variables the values of its model
-pub record IsSat (budget : ℕ) (q : PlainCondition) (classes : List PlainSlice) (values : List ℤ) (parts : List PlainPart) : Type 0 where
+-- values that make the query hold as written; all slices were asked, and each gave its variables the values of its
+-- model
+pub record IsSat (budget : ℕ) (q : PlainCondition) (classes : List PlainSlice) (values : List ℤ)
+    (parts : List PlainPart) : Type 0 where
   pub possible : NoneIsNever q
   pub holds : Holds q values
   pub given : All (IsGivenBy budget q values) classes
@@ -123,7 +126,8 @@ pub record IsUnsatAtom (q : PlainCondition) (j : ℕ) (parts : List PlainPart) :
   pub unsatisfiable : ¬ IsSatisfiable q
 
 -- the slices were asked up to and with this one, the first found that has no model
-pub record IsUnsatSlice (budget : ℕ) (q : PlainCondition) (classes : List PlainSlice) (s : ℕ) (parts : List PlainPart) : Type 0 where
+pub record IsUnsatSlice (budget : ℕ) (q : PlainCondition) (classes : List PlainSlice) (s : ℕ)
+    (parts : List PlainPart) : Type 0 where
   pub possible : NoneIsNever q
   pub asked : length parts ≡ s + 1
   pub before : AllZip (Leaves budget q) (take s classes) (take s parts)
@@ -132,7 +136,8 @@ pub record IsUnsatSlice (budget : ℕ) (q : PlainCondition) (classes : List Plai
   pub unsatisfiable : ¬ IsSatisfiable q
 
 -- all slices were asked, none was found to have no model, and this is the first that was left open
-pub record IsUnknown (budget : ℕ) (q : PlainCondition) (classes : List PlainSlice) (s : ℕ) (parts : List PlainPart) : Type 0 where
+pub record IsUnknown (budget : ℕ) (q : PlainCondition) (classes : List PlainSlice) (s : ℕ)
+    (parts : List PlainPart) : Type 0 where
   pub possible : NoneIsNever q
   pub left : AllZip (Leaves budget q) classes parts
   pub first : IsFirstOpen parts s

@@ -7,8 +7,8 @@ use sqlite_items::Items;
 /// which `slicer::slices` puts in front, has no number here.
 #[derive(Debug, Drop)]
 pub enum Verdict {
-    /// One value per variable, in order of declaration, that makes the query hold as written: those that the searches of
-    /// its slices came to.
+    /// One value per variable, in order of declaration, that makes the query hold as written: those that the searches
+    /// of its slices came to.
     Sat(Items<i64>),
     /// The least atom that no integers satisfy.
     UnsatAtom(u32),
