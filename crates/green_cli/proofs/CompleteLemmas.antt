@@ -29,12 +29,9 @@ use Rattle.green_cli.specs.declared.outcome.Report.{Report}
 -- what a fault is written as has a cause too, where want of memory has
 cause_written : (cause : Fault → Type 0) (fault written : Fault) → cause NoMemory → cause fault
     → IsWrittenAs fault written → cause written
-cause_written cause Usage written memory reason is = subst cause (sym is) reason
 cause_written cause (Text fault) written memory reason is =
     ⊎_elim (λ text. subst cause (sym text.0) reason) (λ none. subst cause (sym none) memory) is
-cause_written cause Read written memory reason is = subst cause (sym is) reason
-cause_written cause NoMemory written memory reason is = subst cause (sym is) reason
-cause_written cause TooLong written memory reason is = subst cause (sym is) reason
+cause_written cause other written memory reason is = subst cause (sym is) reason
 
 pub refused_by : {D : Type 0} (cause : Fault → Type 0) (call : Call D) (fault : Fault) → cause NoMemory → cause fault
     → FaultIsWritten fault call.sink call.status → IsEmpty call.report → IsRefused cause call
@@ -84,7 +81,6 @@ taken_within all bytes new taken = omega (arith, ap length taken.1, length-appen
 -- nothing but want of memory
 pub only_memory : {D : Type 0} → SpelledHasNoFault → (call : Call D) (fault : Fault) → GivesSession call.source.before
     → ¬ Rose call.source.before.faults call.source.after.faults → solve_cause call fault → fault ≡ NoMemory
-only_memory law call Usage gives same cause = absurd cause
 only_memory law call (Text fault) gives same cause =
     let read : gives.bytes ≡ cause.bytes =
     (subst (λ (o : Option (List ℕ)). Drains o call.source.after.left cause.bytes) gives.told cause.read.whole).0 in
@@ -97,6 +93,7 @@ only_memory law call TooLong gives same cause =
     let taken = taken_within gives.bytes cause.bytes call.source.after.left
     (subst (λ (o : Option (List ℕ)). Consumes o call.source.after.left cause.bytes) gives.told cause.given) in
     absurd (omega (arith, taken, cause.long, gives.short))
+only_memory law call _ gives same cause = absurd cause
 
 done : {D : Type 0} (budget : ℕ) (call : Call D) → IsSolved budget call → NothingFails call
     → IsDoneOrStarved call.status

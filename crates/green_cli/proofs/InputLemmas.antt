@@ -8,7 +8,7 @@ use Rattle.outside.specs.States.{SourceState}
 use Rattle.green_cli.specs.Call.{change}
 use Rattle.green_cli.specs.Input.{Consumes, Drains, PieceFails, TakesAtMost, input_cause, max_input}
 use Rattle.green_cli.specs.declared.fault.Fault.{Fault}
-use Rattle.green_cli.specs.declared.fault.Fault.TheVariants.{Usage, Text, Read, NoMemory, TooLong}
+use Rattle.green_cli.specs.declared.fault.Fault.TheVariants.{Read, NoMemory}
 
 -- nothing was taken yet
 pub Consumes-none : (left : Option (List ℕ)) → Consumes left left []
@@ -81,8 +81,6 @@ drained old mid new xs ys first more end =
 pub piece_failed : (old mid new : SourceState) (xs : List ℕ) (fault : Fault) → Consumes old.left mid.left xs
     → length xs ≤ max_input → mid.faults ≡ old.faults → PieceFails (change mid new) fault
     → input_cause (change old new) fault
-piece_failed old mid new xs Usage taken short same fails = fails
-piece_failed old mid new xs (Text fault) taken short same fails = fails
 piece_failed old mid new xs Read taken short same fails = record {
   rose = subst (λ (before : ℕ). Rose before new.faults) same fails.0;
   short = record {
@@ -92,4 +90,4 @@ piece_failed old mid new xs Read taken short same fails = record {
   };
 }
 piece_failed old mid new xs NoMemory taken short same fails = tt
-piece_failed old mid new xs TooLong taken short same fails = absurd fails
+piece_failed old mid new xs _ taken short same fails = absurd fails

@@ -6,7 +6,7 @@ use Rattle.green_cli.specs.Solve.{Solves}
 use Rattle.green_cli.specs.Statuses.{IsRefused}
 use Rattle.green_cli.specs.Words.{AreCommand, IsCommand}
 use Rattle.green_cli.specs.declared.fault.Fault.{Fault}
-use Rattle.green_cli.specs.declared.fault.Fault.TheVariants as fault
+use Rattle.green_cli.specs.declared.fault.Fault.TheVariants.{Usage, NoMemory}
 use Rattle.green_cli.specs.declared.words.Command.{Command}
 use Rattle.green_cli.specs.declared.words.Command.TheVariants.{Solve}
 
@@ -16,11 +16,9 @@ Does (Solve budget) call = Solves budget call
 
 -- why words are refused; want of memory needs no cause
 abbrev pub words_cause : List Text → Fault → Type 0
-words_cause words fault.Usage = ¬ AreCommand words
-words_cause words (fault.Text told) = ⊥
-words_cause words fault.Read = ⊥
-words_cause words fault.NoMemory = Unit {0}
-words_cause words fault.TooLong = ⊥
+words_cause words Usage = ¬ AreCommand words
+words_cause words NoMemory = Unit {0}
+words_cause words _ = ⊥
 
 -- the words were refused before anything was read: status 10 or 16
 pub record RefusesWords {D : Type 0} (words : List Text) (call : Call D) : Type 0 where

@@ -9,7 +9,7 @@ use Rattle.session_text.specs.Answers.{IsPlaced}
 use Rattle.session_text.specs.Sessions.{SpellsSession}
 use Rattle.green_cli.specs.Call.{Change}
 use Rattle.green_cli.specs.declared.fault.Fault.{Fault}
-use Rattle.green_cli.specs.declared.fault.Fault.TheVariants.{Usage, Text, Read, NoMemory, TooLong}
+use Rattle.green_cli.specs.declared.fault.Fault.TheVariants.{Text, Read, NoMemory, TooLong}
 
 -- the most bytes of an input
 abbrev pub max_input : ℕ
@@ -55,19 +55,16 @@ pub record InputIsTooLong (source : Change SourceState) : Type 0 where
 
 -- Why an input can't be had. Want of memory needs no cause.
 abbrev pub input_cause : Change SourceState → Fault → Type 0
-input_cause source Usage = ⊥
-input_cause source (Text fault) = ⊥
 input_cause source Read = ReadFailed source
 input_cause source NoMemory = Unit {0}
 input_cause source TooLong = InputIsTooLong source
+input_cause source _ = ⊥
 
 -- why a piece of an input can't be had: a read failed and took nothing, or memory ran out
 abbrev pub PieceFails : Change SourceState → Fault → Type 0
-PieceFails source Usage = ⊥
-PieceFails source (Text fault) = ⊥
 PieceFails source Read = Rose source.before.faults source.after.faults × (source.after.left ≡ source.before.left)
 PieceFails source NoMemory = Unit {0}
-PieceFails source TooLong = ⊥
+PieceFails source _ = ⊥
 
 -- the source tells its bytes, and they are the text of a session, not too long
 pub record GivesSession (source : SourceState) : Type 0 where
@@ -92,8 +89,5 @@ pub record InputIsFaulty (source : Change SourceState) (fault : SessionFault) : 
 
 -- why a session can't be had
 abbrev pub session_cause : Change SourceState → Fault → Type 0
-session_cause source Usage = ⊥
 session_cause source (Text fault) = InputIsFaulty source fault
-session_cause source Read = input_cause source Read
-session_cause source NoMemory = input_cause source NoMemory
-session_cause source TooLong = input_cause source TooLong
+session_cause source other = input_cause source other

@@ -78,10 +78,7 @@ pub record WritesFault (fault : Fault) (sink : Change SinkState) (status : ℕ) 
 -- written as no fault of a text.
 abbrev pub IsWrittenAs : Fault → Fault → Type 0
 IsWrittenAs (Text fault) written = ((written ≡ Text fault) × (fault.kind ≢ kind.NoMemory)) ⊎ (written ≡ NoMemory)
-IsWrittenAs Usage written = written ≡ Usage
-IsWrittenAs Read written = written ≡ Read
-IsWrittenAs NoMemory written = written ≡ NoMemory
-IsWrittenAs TooLong written = written ≡ TooLong
+IsWrittenAs fault written = written ≡ fault
 
 -- the fault was written, as itself or as what stands for it
 pub record FaultIsWritten (fault : Fault) (sink : Change SinkState) (status : ℕ) : Type 0 where

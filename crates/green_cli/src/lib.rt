@@ -3,6 +3,7 @@
 
 mod answering;
 mod answers_text;
+mod ending;
 mod fault;
 mod input;
 mod laws;

@@ -4,8 +4,9 @@ ghost use Rattle.std.specs.String.{string_bytes};
 ghost use Rattle.green_cli.specs.Call.{change};
 ghost use Rattle.green_cli.specs.Commands.{Does, DoesAsAsked};
 
+use crate::ending::refuse;
 use crate::fault::Fault;
-use crate::outcome::{Outcome, refuse};
+use crate::outcome::Outcome;
 use crate::solve::solve;
 use crate::words::{Command, WordsFault, read_words};
 use outside::{Disk, Gate, Sink, Source};

@@ -8,9 +8,10 @@ ghost use Rattle.green_cli.specs.Statuses.{Ends, run_status};
 
 use crate::answering::answer_session;
 use crate::answers_text::write_answers;
+use crate::ending::{finish, refuse};
 use crate::fault::Fault;
 use crate::input::take_session;
-use crate::outcome::{Outcome, Report, finish, refuse};
+use crate::outcome::{Outcome, Report};
 use crate::words::Budget;
 use lin_model::Session;
 use outside::{Disk, NoMemory, Sink, Source};
