@@ -3,7 +3,7 @@
 
 ghost use Rattle.std.specs.Prelude.{◌≡◌, ◌≢◌, ◌⊎◌, IfErr};
 
-use green_cli::{Fault, green, tell};
+use green_cli::{Fault, green, write_fault};
 use outside::{NoDisk, NoGate, StdSink, StdSource};
 use std::io::ErrorKind;
 use std::process::ExitCode;
@@ -13,7 +13,7 @@ fn main(rt: HostRuntime) -> ExitCode {
     let mut sink = StdSink::new(io::writer(&rt));
     let words = match words(&rt) {
         Ok(words) => words,
-        Err(fault) => return ExitCode::from(tell(rt.alloc(), fault, &mut sink)),
+        Err(fault) => return ExitCode::from(write_fault(rt.alloc(), fault, &mut sink)),
     };
     let mut source = StdSource::new(rt.reader());
     let outcome = green(
@@ -30,7 +30,7 @@ fn main(rt: HostRuntime) -> ExitCode {
 
 /// The words behind the program's own name. Words that are no text are wrong words.
 fn words(rt: &(impl rt::Env + AllocGlobal)) -> Result<Vec<String>, Fault>
-    ensures { IfErr result (λ fault. (fault ≡ Fault.Usage) ⊎ (fault ≡ Fault.Memory)) }
+    ensures { IfErr result (λ fault. (fault ≡ Fault.Usage) ⊎ (fault ≡ Fault.NoMemory)) }
 {
     let args = env::args(rt).map_err(|error| fault_of(error.kind()))?;
     Ok(args.skip(1).collect::<Vec<String>>(rt.alloc())?)
@@ -38,11 +38,11 @@ fn words(rt: &(impl rt::Env + AllocGlobal)) -> Result<Vec<String>, Fault>
 
 /// The fault where the words can't be had: want of memory, and else words that are no text.
 fn fault_of(kind: ErrorKind) -> Fault
-    ensures memory { kind ≡ ErrorKind.OutOfMemory → result ≡ Fault.Memory }
+    ensures memory { kind ≡ ErrorKind.OutOfMemory → result ≡ Fault.NoMemory }
     ensures usage { kind ≢ ErrorKind.OutOfMemory → result ≡ Fault.Usage }
 {
     match kind {
-        ErrorKind::OutOfMemory => Fault::Memory,
+        ErrorKind::OutOfMemory => Fault::NoMemory,
         _ => Fault::Usage,
     }
 }

@@ -1,6 +1,10 @@
--- When a call is bound to answer, and when it leaves no query unknown.
-use Rattle.std.proofs.Common.{◌≡◌, ◌≢◌, ◌⊎◌, ℕ, zero, suc, ◌<◌, ◌≤◌, List, [], ◌∷◌, length, get_or, length-append, Option, Some, IfSome, arith, refl, sym, ap, subst, inl, inr}
-use Rattle.std.specs.List.{AllZip, Any}
+-- What follows of a call that solved its session, or was refused.
+use Rattle.std.proofs.Common.{◌≡◌, ◌≢◌, ◌⊎◌, ℕ, zero, suc, ◌<◌, ◌≤◌, ◌+◌, Bool, true, false, List, [], ◌∷◌, length}
+use Rattle.std.proofs.Common.{get_or}
+use Rattle.std.proofs.Common.{length-append, Option, Some, arith, refl, sym, ap, subst, ◌∙◌, inl, inr, ⊎_elim}
+use Rattle.std.specs.Prelude.{if◌then◌else◌}
+use Rattle.std.specs.List.{AllZip, Any, list_any}
+use Rattle.std.proofs.lemmas.List.Folds.{Any-from_list_any}
 use Rattle.outside.specs.Counts.{Rose}
 use Rattle.lin_model.specs.Conditions.{PlainCondition}
 use Rattle.session_text.specs.Laws.{SpelledHasNoFault}
@@ -8,14 +12,65 @@ use Rattle.session_text.specs.Sessions.{SpellsSession}
 use Rattle.pipeline.specs.Answers.{IsRightAnswer}
 use Rattle.pipeline.specs.Laws.{Suffices, SufficientDecides}
 use Rattle.pipeline.specs.declared.answer.Plain.{Plain}
-use Rattle.pipeline.specs.declared.answer.Told.{Told}
-use Rattle.pipeline.specs.declared.answer.Told.TheVariants.{Sat, UnsatAtom, UnsatSlice, Unknown}
-use Rattle.green_cli.specs.Input.{Consumes, GivesSession}
-use Rattle.green_cli.specs.Solve.{AreRight, HasUnknown, IsUnknown, SufficesFor}
-use Rattle.green_cli.specs.Statuses.{HasReason, IsAnswered, IsToldAs, IsWritten, status_of}
+use Rattle.pipeline.specs.declared.answer.Verdict.{Verdict}
+use Rattle.pipeline.specs.declared.answer.Verdict.TheVariants.{Sat, UnsatAtom, UnsatSlice, Unknown}
+use Rattle.green_cli.specs.Call.{Call, KeepsDisks, NothingFails}
+use Rattle.green_cli.specs.AnswersText.{answers_text}
+use Rattle.green_cli.specs.Input.{Consumes, Drains, GivesSession, InputWasRead, TakesAtMost, max_input}
+use Rattle.green_cli.specs.Solve.{AreRight, IsDoneOrStarved, IsSolved, Solves, SufficesFor, solve_cause}
+use Rattle.green_cli.specs.Statuses.{Ends, FaultIsWritten, IsEmpty, IsRefused, IsWrittenAs}
+use Rattle.green_cli.specs.Statuses.{has_unknown, is_unknown, run_status, status_of}
 use Rattle.green_cli.specs.declared.fault.Fault.{Fault}
-use Rattle.green_cli.specs.declared.fault.Fault.TheVariants.{Usage, Text, Read, Memory, TooLong}
+use Rattle.green_cli.specs.declared.fault.Fault.TheVariants.{Usage, Text, Read, NoMemory, TooLong}
 use Rattle.green_cli.specs.declared.outcome.Report.{Report}
+
+-- ---- refusals
+
+-- what a fault is written as has a cause too, where want of memory has
+cause_written : (cause : Fault → Type 0) (fault written : Fault) → cause NoMemory → cause fault
+    → IsWrittenAs fault written → cause written
+cause_written cause (Text fault) written memory reason is =
+    ⊎_elim (λ text. subst cause (sym text.0) reason) (λ none. subst cause (sym none) memory) is
+cause_written cause other written memory reason is = subst cause (sym is) reason
+
+pub refused_by : {D : Type 0} (cause : Fault → Type 0) (call : Call D) (fault : Fault) → cause NoMemory → cause fault
+    → FaultIsWritten fault call.sink call.status → IsEmpty call.report → IsRefused cause call
+refused_by cause call fault memory reason writes nothing = record {
+  fault = writes.written;
+  reason = cause_written cause fault writes.written memory reason writes.for_it;
+  writes = writes.writes;
+  nothing = nothing;
+}
+
+-- no fault has the status of an unknown answer
+pub fault_not_unknown : (fault : Fault) (status : ℕ) → status ≡ status_of fault → status ≢ 3
+fault_not_unknown Usage status number e = omega (arith, number, e)
+fault_not_unknown (Text fault) status number e = omega (arith, number, e)
+fault_not_unknown Read status number e = omega (arith, number, e)
+fault_not_unknown NoMemory status number e = omega (arith, number, e)
+fault_not_unknown TooLong status number e = omega (arith, number, e)
+
+-- ---- statuses of what was done
+
+pub run_status_is : (report : Report) → (run_status report ≡ 0) ⊎ (run_status report ≡ 3)
+run_status_is report = go (has_unknown report.answers)
+  where
+    status : Bool → ℕ
+    status b = if b then 3 else 0
+
+    go : (b : Bool) → (status b ≡ 0) ⊎ (status b ≡ 3)
+    go true = inr refl
+    go false = inl refl
+
+pub run_status_unknown : (report : Report) → run_status report ≡ 3 → has_unknown report.answers ≡ true
+run_status_unknown report = go (has_unknown report.answers)
+  where
+    status : Bool → ℕ
+    status b = if b then 3 else 0
+
+    go : (b : Bool) → status b ≡ 3 → b ≡ true
+    go true e = refl
+    go false e = absurd (omega (arith, e))
 
 -- ---- what a source that gives a session, and doesn't fail, may be refused for
 
@@ -24,61 +79,123 @@ taken_within : (all bytes : List ℕ) (new : Option (List ℕ)) → Consumes (So
 taken_within all bytes new taken = omega (arith, ap length taken.1, length-append bytes taken.0)
 
 -- nothing but want of memory
-pub only_memory : SpelledHasNoFault → (fault : Fault) (old new : Option (List ℕ)) (before after : ℕ) → HasReason ⊥ fault old new before after → GivesSession old → ¬ Rose before after → fault ≡ Memory
-only_memory law Usage old new before after reason gives same = absurd reason
-only_memory law (Text told) old new before after reason gives same =
-    let read : gives.bytes ≡ reason.bytes = subst (λ (o : Option (List ℕ)). IfSome o (λ all. all ≡ reason.bytes)) gives.told reason.read.whole in
-    let spells : SpellsSession reason.bytes gives.session = subst (λ (bytes : List ℕ). SpellsSession bytes gives.session) read gives.spells in
-    absurd (law reason.bytes gives.session spells told.kind reason.placed.place reason.placed.fault)
-only_memory law Read old new before after reason gives same = absurd (same reason.rose)
-only_memory law Memory old new before after reason gives same = refl
-only_memory law TooLong old new before after reason gives same =
-    let taken = taken_within gives.bytes reason.bytes new (subst (λ (o : Option (List ℕ)). Consumes o new reason.bytes) gives.told reason.given) in
-    absurd (omega (arith, taken, reason.long, gives.short))
+pub only_memory : {D : Type 0} → SpelledHasNoFault → (call : Call D) (fault : Fault) → GivesSession call.source.before
+    → ¬ Rose call.source.before.faults call.source.after.faults → solve_cause call fault → fault ≡ NoMemory
+only_memory law call (Text fault) gives same cause =
+    let read : gives.bytes ≡ cause.bytes =
+    (subst (λ (o : Option (List ℕ)). Drains o call.source.after.left cause.bytes) gives.told cause.read.whole).0 in
+    let spells : SpellsSession cause.bytes gives.session =
+    subst (λ (bytes : List ℕ). SpellsSession bytes gives.session) read gives.spells in
+    absurd (law cause.bytes gives.session spells fault.kind cause.placed.place cause.placed.fault)
+only_memory law call Read gives same cause = absurd (same cause.rose)
+only_memory law call NoMemory gives same cause = refl
+only_memory law call TooLong gives same cause =
+    let taken = taken_within gives.bytes cause.bytes call.source.after.left
+    (subst (λ (o : Option (List ℕ)). Consumes o call.source.after.left cause.bytes) gives.told cause.given) in
+    absurd (omega (arith, taken, cause.long, gives.short))
+only_memory law call _ gives same cause = absurd cause
 
--- and want of memory is told as such
-pub told_as_memory : (fault told : Fault) (status : ℕ) → fault ≡ Memory → IsToldAs fault told → status ≡ status_of told → status ≡ 16
-told_as_memory fault told status is told_as number =
-    let memory : told ≡ Memory = subst (λ (f : Fault). IsToldAs f told) is told_as in
-    subst (λ (f : Fault). status ≡ status_of f) memory number
-
--- no fault has the status of an unknown answer
-pub refused_not_unknown : (told : Fault) (status : ℕ) → status ≡ status_of told → status ≢ 3
-refused_not_unknown Usage status number = λ e. omega (arith, number, e)
-refused_not_unknown (Text told) status number = λ e. omega (arith, number, e)
-refused_not_unknown Read status number = λ e. omega (arith, number, e)
-refused_not_unknown Memory status number = λ e. omega (arith, number, e)
-refused_not_unknown TooLong status number = λ e. omega (arith, number, e)
-
--- where the answers were had, only a fault of the sink keeps them from being written
-pub written_unless_rose : (status before after : ℕ) → IsAnswered status → (status ≡ 13 → Rose before after) → ¬ Rose before after → IsWritten status ⊎ (status ≡ 16)
-written_unless_rose status before after (inl written) rose same = inl written
-written_unless_rose status before after (inr failed) rose same = absurd (same (rose failed))
+done : {D : Type 0} (budget : ℕ) (call : Call D) → IsSolved budget call → NothingFails call
+    → IsDoneOrStarved call.status
+done budget call solved nothing =
+    ⊎_elim
+    (λ whole. ⊎_elim (λ zero. inl (whole.1 ∙ zero)) (λ three. inr (inl (whole.1 ∙ three))) (run_status_is call.report))
+    (λ cut. absurd (nothing.sink cut.0.rose)) solved.result
 
 -- ---- budgets that suffice
 
 -- what two relations of the items exclude is true of none of them
-none_of_zip : {A B : Type 0} (R S : A → B → Type 0) (P : B → Type 0) → ((x : A) (y : B) → R x y → S x y → P y → ⊥) → (xs : List A) (ys : List B) → AllZip R xs ys → AllZip S xs ys → (k : ℕ) (y : B) → k < length ys → get_or ys k y ≡ y → P y → ⊥
+none_of_zip : {A B : Type 0} (R S : A → B → Type 0) (P : B → Type 0) → ((x : A) (y : B) → R x y → S x y → P y → ⊥)
+    → (xs : List A) (ys : List B) → AllZip R xs ys → AllZip S xs ys → (k : ℕ) (y : B) → k < length ys
+    → get_or ys k y ≡ y → P y → ⊥
 none_of_zip R S P excluded [] [] r s k y within is p = absurd (omega (arith, within))
 none_of_zip R S P excluded [] (z ∷ ys) r s k y within is p = absurd r
 none_of_zip R S P excluded (x ∷ xs) [] r s k y within is p = absurd r
 none_of_zip R S P excluded (x ∷ xs) (z ∷ ys) r s zero y within is p = excluded x z r.0 s.0 (subst P (sym is) p)
-none_of_zip R S P excluded (x ∷ xs) (z ∷ ys) r s (suc k) y within is p = none_of_zip R S P excluded xs ys r.1 s.1 k y (omega (arith, within)) is p
+none_of_zip R S P excluded (x ∷ xs) (z ∷ ys) r s (suc k) y within is p =
+    none_of_zip R S P excluded xs ys r.1 s.1 k y (omega (arith, within)) is p
 
-zip_excludes : {A B : Type 0} (R S : A → B → Type 0) (P : B → Type 0) → ((x : A) (y : B) → R x y → S x y → P y → ⊥) → (xs : List A) (ys : List B) → AllZip R xs ys → AllZip S xs ys → Any P ys → ⊥
+zip_excludes : {A B : Type 0} (R S : A → B → Type 0) (P : B → Type 0) → ((x : A) (y : B) → R x y → S x y → P y → ⊥)
+    → (xs : List A) (ys : List B) → AllZip R xs ys → AllZip S xs ys → Any P ys → ⊥
 zip_excludes R S P excluded xs ys r s any = none_of_zip R S P excluded xs ys r s any.0 any.1 any.2 any.3 any.4
 
-not_unknown : (verdict : Told) → ((s : ℕ) → verdict ≢ Unknown s) → IsUnknown verdict → ⊥
-not_unknown (Sat values) other unknown = unknown
-not_unknown (UnsatAtom atom) other unknown = unknown
-not_unknown (UnsatSlice slice) other unknown = unknown
-not_unknown (Unknown slice) other unknown = other slice refl
+verdict_known : (verdict : Verdict) → ((s : ℕ) → verdict ≢ Unknown s) → is_unknown verdict ≡ true → ⊥
+verdict_known (Sat values) other unknown = cc
+verdict_known (UnsatAtom atom) other unknown = cc
+verdict_known (UnsatSlice slice) other unknown = cc
+verdict_known (Unknown slice) other unknown = other slice refl
 
 -- no answer is unknown
-pub none_unknown : SufficientDecides → (budget : ℕ) (report : Report) → AreRight budget report.session report.answers → SufficesFor budget report → ¬ HasUnknown report.answers
+none_unknown : SufficientDecides → (budget : ℕ) (report : Report) → AreRight budget report.session report.answers
+    → SufficesFor budget report → has_unknown report.answers ≡ true → ⊥
 none_unknown law budget report right suffices any =
-    zip_excludes (λ queries script. AllZip (λ q answer. IsRightAnswer budget q answer) queries script) (λ queries script. AllZip (λ q answer. Suffices budget q answer) queries script) (λ script. Any (λ answer. IsUnknown answer.verdict) script) by_query report.session report.answers right suffices any
+    zip_excludes (λ queries script. AllZip (λ q answer. IsRightAnswer budget q answer) queries script)
+    (λ queries script. AllZip (λ q answer. Suffices budget q answer) queries script)
+    (λ script. list_any (λ answer. is_unknown answer.verdict) script ≡ true)
+    by_query report.session report.answers right suffices (Any-from_list_any _ report.answers any)
   where
-    by_query : (queries : List PlainCondition) (script : List Plain) → AllZip (λ q answer. IsRightAnswer budget q answer) queries script → AllZip (λ q answer. Suffices budget q answer) queries script → Any (λ answer. IsUnknown answer.verdict) script → ⊥
+    by_query : (queries : List PlainCondition) (script : List Plain)
+        → AllZip (λ q answer. IsRightAnswer budget q answer) queries script
+        → AllZip (λ q answer. Suffices budget q answer) queries script
+        → list_any (λ answer. is_unknown answer.verdict) script ≡ true → ⊥
     by_query queries script are suffice some =
-        zip_excludes (λ q answer. IsRightAnswer budget q answer) (λ q answer. Suffices budget q answer) (λ answer. IsUnknown answer.verdict) (λ q answer is enough unknown. not_unknown answer.verdict (law budget q answer is enough).told unknown) queries script are suffice some
+        zip_excludes (λ q answer. IsRightAnswer budget q answer) (λ q answer. Suffices budget q answer)
+        (λ answer. is_unknown answer.verdict ≡ true)
+        (λ q answer is enough. verdict_known answer.verdict (law budget q answer is enough).told)
+        queries script are suffice (Any-from_list_any _ script some)
+
+-- ---- the whole promise
+
+solved_not_unknown : {D : Type 0} (law : SufficientDecides) (budget : ℕ) (call : Call D) → IsSolved budget call
+    → SufficesFor budget call.report → call.status ≢ 3
+solved_not_unknown law budget call solved suffices three =
+    ⊎_elim
+    (λ whole. none_unknown law budget call.report solved.answers suffices
+    (run_status_unknown call.report (sym whole.1 ∙ three)))
+    (λ cut. absurd (omega (arith, cut.1, three))) solved.result
+
+-- the report and what was read, with its text
+solved_by : {D : Type 0} (budget : ℕ) (call : Call D) (report : Report) (text : List ℕ) → call.report ≡ report
+    → InputWasRead call.source report.session → AreRight budget report.session report.answers
+    → text ≡ answers_text report.session report.answers → Ends text (run_status report) call.sink call.status
+    → IsSolved budget call
+solved_by budget call report text is input right spelled ends =
+    let ends_so : Ends (answers_text report.session report.answers) (run_status report) call.sink call.status =
+    subst (λ (t : List ℕ). Ends t (run_status report) call.sink call.status) spelled ends in
+    record {
+      input = subst (λ (r : Report). InputWasRead call.source r.session) (sym is) input;
+      answers = subst (λ (r : Report). AreRight budget r.session r.answers) (sym is) right;
+      result =
+          subst (λ (r : Report). Ends (answers_text r.session r.answers) (run_status r) call.sink call.status) (sym is)
+          ends_so;
+    }
+
+pub solves_where_answered : {D : Type 0} → SufficientDecides → (budget : ℕ) (call : Call D) (report : Report)
+    (text : List ℕ) → call.report ≡ report → InputWasRead call.source report.session
+    → AreRight budget report.session report.answers → text ≡ answers_text report.session report.answers
+    → Ends text (run_status report) call.sink call.status → KeepsDisks call
+    → TakesAtMost (max_input + 1) call.source → Solves budget call
+solves_where_answered law budget call report text is input right spelled ends disks bounded =
+    let solved = solved_by budget call report text is input right spelled ends in
+    record {
+      outcome = inl solved;
+      disks = disks;
+      bounded = bounded;
+      complete = λ gives nothing. done budget call solved nothing;
+      sufficient = solved_not_unknown law budget call solved;
+    }
+
+pub solves_where_refused : {D : Type 0} → SpelledHasNoFault → (budget : ℕ) (call : Call D) (fault : Fault)
+    → solve_cause call fault → FaultIsWritten fault call.sink call.status → IsEmpty call.report
+    → KeepsDisks call → TakesAtMost (max_input + 1) call.source → Solves budget call
+solves_where_refused law budget call fault cause writes nothing disks bounded =
+    let refused = refused_by (solve_cause call) call fault tt cause writes nothing in
+    record {
+      outcome = inr refused;
+      disks = disks;
+      bounded = bounded;
+      complete = λ gives fine.
+          let memory = only_memory law call refused.fault gives fine.source refused.reason in
+          inr (inr (refused.writes.number ∙ ap status_of memory));
+      sufficient = λ suffices. fault_not_unknown refused.fault call.status refused.writes.number;
+    }

@@ -4,8 +4,8 @@ use Rattle.std.specs.List.{AllZip}
 use Rattle.lin_model.specs.Terms.{PlainVar}
 use Rattle.lin_model.specs.Conditions.{PlainCondition}
 use Rattle.lin_text.specs.Spelling.{line, integer}
-use Rattle.pipeline.specs.declared.answer.Told.{Told}
-use Rattle.pipeline.specs.declared.answer.Told.TheVariants.{Sat, UnsatAtom, UnsatSlice, Unknown}
+use Rattle.pipeline.specs.declared.answer.Verdict.{Verdict}
+use Rattle.pipeline.specs.declared.answer.Verdict.TheVariants.{Sat, UnsatAtom, UnsatSlice, Unknown}
 use Rattle.pipeline.specs.declared.answer.PlainPart.{PlainPart}
 use Rattle.pipeline.specs.declared.answer.PlainPart.TheVariants.{Solved, Open}
 use Rattle.pipeline.specs.declared.answer.Plain.{Plain}
@@ -21,7 +21,7 @@ model_text (var ∷ vars) [] = []
 model_text (var ∷ vars) (value ∷ values) = value_text var value ++ model_text vars values
 
 -- a verdict; numbers of atoms and slices count from 1
-unfoldable pub verdict_text : List PlainVar → Told → List ℕ
+unfoldable pub verdict_text : List PlainVar → Verdict → List ℕ
 verdict_text vars (Sat values) = codes "sat" ++ model_text vars values
 verdict_text vars (UnsatAtom atom) = codes "unsat atom " ++ decimal (atom + 1)
 verdict_text vars (UnsatSlice slice) = codes "unsat slice " ++ decimal (slice + 1)
@@ -73,14 +73,16 @@ HaveAnswers session answers = AllZip (λ queries script. length queries ≡ leng
 unfoldable pub script_text : ℕ → List PlainCondition → List Plain → List ℕ
 script_text place [] answers = []
 script_text place (q ∷ queries) [] = []
-script_text place (q ∷ queries) (answer ∷ answers) = line (answer_text place q answer) ++ script_text (place + solved_in answer.parts) queries answers
+script_text place (q ∷ queries) (answer ∷ answers) =
+    line (answer_text place q answer) ++ script_text (place + solved_in answer.parts) queries answers
 
 -- the answers of all executors
 unfoldable pub executors_text : ℕ → List (List PlainCondition) → List (List Plain) → List ℕ
 executors_text place [] scripts = []
 executors_text place (queries ∷ executors) [] = []
 executors_text place (queries ∷ executors) (answers ∷ scripts) =
-    line (codes "executor") ++ script_text place queries answers ++ executors_text (place + solved_count answers) executors scripts
+    line (codes "executor") ++ script_text place queries answers ++ executors_text (place + solved_count answers)
+    executors scripts
 
 -- the whole text
 unfoldable pub answers_text : List (List PlainCondition) → List (List Plain) → List ℕ

@@ -7,7 +7,8 @@ use Rattle.green_cli.specs.Words.{AreCommand, IsCommand}
 
 -- words ask for one command at most
 abbrev pub CommandsAreUnique : Type 0
-CommandsAreUnique = (words : List Text) (one other : Command) → IsCommand words one → IsCommand words other → one ≡ other
+CommandsAreUnique = (words : List Text) (one other : Command) → IsCommand words one → IsCommand words other
+    → one ≡ other
 
 -- `solve` asks for the usual budget, and `solve --budget 7` and `solve --budget=007` for 7
 pub record LinesAsk : Type 0 where

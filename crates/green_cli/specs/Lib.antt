@@ -1,7 +1,10 @@
 pub mod AnswersText
+pub mod Call
+pub mod Commands
 pub mod Input
 pub mod Laws
 pub mod Lines
 pub mod Solve
+pub mod StatusLaws
 pub mod Statuses
 pub mod Words

@@ -3,9 +3,12 @@ use Rattle.std.specs.Prelude.{ℕ, List, [], ◌++◌, codes, decimal}
 use Rattle.lin_text.specs.Spelling.{line}
 use Rattle.lin_text.specs.declared.fault.SessionFault.{SessionFault}
 use Rattle.lin_text.specs.declared.fault.SessionKind.{SessionKind}
-use Rattle.lin_text.specs.declared.fault.SessionKind.TheVariants.{BadHeader, TooManyExecutors, TooManyQueries, NoEnd, Token, Syntax, NumberTooLarge, UnknownName, NameTwice, EmptyRange, TooManyVars, TooManyAtoms, TooManyTerms, NoMemory}
+use Rattle.lin_text.specs.declared.fault.SessionKind.TheVariants.{BadHeader, TooManyExecutors, TooManyQueries, NoEnd}
+use Rattle.lin_text.specs.declared.fault.SessionKind.TheVariants.{Token, Syntax, NumberTooLarge, UnknownName, NameTwice}
+use Rattle.lin_text.specs.declared.fault.SessionKind.TheVariants.{EmptyRange, TooManyVars, TooManyAtoms, TooManyTerms}
+use Rattle.lin_text.specs.declared.fault.SessionKind.TheVariants as kind
 use Rattle.green_cli.specs.declared.fault.Fault.{Fault}
-use Rattle.green_cli.specs.declared.fault.Fault.TheVariants.{Usage, Text, Read, Memory, TooLong}
+use Rattle.green_cli.specs.declared.fault.Fault.TheVariants.{Usage, Text, Read, NoMemory, TooLong}
 
 -- the printed name of each kind of fault; want of memory is no fault of a text and has none
 unfoldable pub kind_text : SessionKind → List ℕ
@@ -22,16 +25,18 @@ kind_text UnknownName = codes "unknown-name"
 kind_text NameTwice = codes "name-twice"
 kind_text EmptyRange = codes "empty-range"
 kind_text NoEnd = codes "no-end"
-kind_text NoMemory = []
+kind_text kind.NoMemory = []
 
 -- a fault of a text: its line, its column and its kind
 unfoldable pub text_line : SessionFault → List ℕ
-text_line told = line (codes "fault text " ++ decimal told.line ++ codes " " ++ decimal told.column ++ codes " " ++ kind_text told.kind)
+text_line fault =
+    line (codes "fault text " ++ decimal fault.line ++ codes " " ++ decimal fault.column ++ codes " " ++ kind_text
+    fault.kind)
 
 -- the line of each fault
 unfoldable pub line_of : Fault → List ℕ
 line_of Usage = line (codes "fault usage")
-line_of (Text told) = text_line told
+line_of (Text fault) = text_line fault
 line_of Read = line (codes "fault read")
-line_of Memory = line (codes "fault memory")
+line_of NoMemory = line (codes "fault memory")
 line_of TooLong = line (codes "fault too-long")

@@ -1,70 +1,95 @@
--- The statuses of the top call: why each comes, and what it writes.
-use Rattle.std.specs.Prelude.{◌≡◌, ◌≢◌, ◌⊎◌, ℕ, List, Option}
+-- The statuses of the program, and what a call writes with each.
+use Rattle.std.specs.Prelude.{◌≡◌, ◌≢◌, ◌⊎◌, ℕ, Bool, true, false, List, [], if◌then◌else◌}
+use Rattle.std.specs.List.{list_any}
 use Rattle.outside.specs.Bytes.{Appends, AppendsFront}
 use Rattle.outside.specs.Counts.{Rose}
-use Rattle.lin_text.specs.declared.fault.SessionKind.TheVariants.{NoMemory}
-use Rattle.green_cli.specs.Input.{InputIsFaulty, InputIsTooLong, ReadFailed}
+use Rattle.outside.specs.States.{SinkState}
+use Rattle.lin_text.specs.declared.fault.SessionKind.TheVariants as kind
+use Rattle.pipeline.specs.declared.answer.Plain.{Plain}
+use Rattle.pipeline.specs.declared.answer.Verdict.{Verdict}
+use Rattle.pipeline.specs.declared.answer.Verdict.TheVariants.{Sat, UnsatAtom, UnsatSlice, Unknown}
+use Rattle.green_cli.specs.Call.{Call, Change}
 use Rattle.green_cli.specs.Lines.{line_of}
-use Rattle.green_cli.specs.Solve.{IsEmpty}
 use Rattle.green_cli.specs.declared.fault.Fault.{Fault}
-use Rattle.green_cli.specs.declared.fault.Fault.TheVariants.{Usage, Text, Read, Memory, TooLong}
+use Rattle.green_cli.specs.declared.fault.Fault.TheVariants.{Usage, Text, Read, NoMemory, TooLong}
 use Rattle.green_cli.specs.declared.outcome.Report.{Report}
+
+-- ---- writing
+
+-- the sink took the whole text
+abbrev pub Takes : List ℕ → Change SinkState → Type 0
+Takes text sink = Appends sink.before.taken sink.after.taken text
+
+-- the sink failed, and took a front of the text
+pub record IsCutOff (text : List ℕ) (sink : Change SinkState) : Type 0 where
+  pub front : AppendsFront sink.before.taken sink.after.taken text
+  pub rose : Rose sink.before.faults sink.after.faults
+
+-- the sink took the text, less than the whole of it only where it failed
+abbrev pub Writes : List ℕ → Change SinkState → Type 0
+Writes text sink = Takes text sink ⊎ IsCutOff text sink
+
+-- ---- a command that was done
+
+-- the verdict leaves its query undecided
+abbrev pub is_unknown : Verdict → Bool
+is_unknown (Sat values) = false
+is_unknown (UnsatAtom atom) = false
+is_unknown (UnsatSlice slice) = false
+is_unknown (Unknown slice) = true
+
+-- some query was left undecided
+abbrev pub has_unknown : List (List Plain) → Bool
+has_unknown answers = list_any (λ script. list_any (λ answer. is_unknown answer.verdict) script) answers
+
+-- the status of a command that was done and whose result was written
+abbrev pub run_status : Report → ℕ
+run_status report = if has_unknown report.answers then 3 else 0
+
+-- a text was written whole, with the status of a run, or the sink failed, with status 13
+abbrev pub Ends : List ℕ → ℕ → Change SinkState → ℕ → Type 0
+Ends text run sink status = (Takes text sink × (status ≡ run)) ⊎ (IsCutOff text sink × (status ≡ 13))
+
+-- the text is what the call wrote of its result
+abbrev pub WritesResult : {D : Type 0} → List ℕ → Call D → Type 0
+WritesResult text call = Ends text (run_status call.report) call.sink call.status
+
+-- ---- a call that was refused
 
 -- the status of each fault
 abbrev pub status_of : Fault → ℕ
 status_of Usage = 10
-status_of (Text told) = 11
+status_of (Text fault) = 11
 status_of Read = 12
-status_of Memory = 16
+status_of NoMemory = 16
 status_of TooLong = 18
 
--- the session was answered, and the answers were written
-abbrev pub IsWritten : ℕ → Type 0
-IsWritten status = (status ≡ 0) ⊎ (status ≡ 3)
+-- a report of nothing
+pub record IsEmpty (report : Report) : Type 0 where
+  pub session : report.session ≡ []
+  pub answers : report.answers ≡ []
 
--- the session was answered, whether or not the answers could be written
-abbrev pub IsAnswered : ℕ → Type 0
-IsAnswered status = IsWritten status ⊎ (status ≡ 13)
-
--- Why a call was refused, where `wrong` says that its words are. Want of memory needs no cause.
-abbrev pub HasReason : Type 0 → Fault → Option (List ℕ) → Option (List ℕ) → ℕ → ℕ → Type 0
-HasReason wrong Usage old new before after = wrong
-HasReason wrong (Text told) old new before after = InputIsFaulty old new told
-HasReason wrong Read old new before after = ReadFailed old new before after
-HasReason wrong Memory old new before after = Unit {0}
-HasReason wrong TooLong old new before after = InputIsTooLong old new
-
--- a read failed and took nothing, or memory ran out
-abbrev pub IsReadingFault : Fault → Option (List ℕ) → Option (List ℕ) → ℕ → ℕ → Type 0
-IsReadingFault Usage old new before after = ⊥
-IsReadingFault (Text told) old new before after = ⊥
-IsReadingFault Read old new before after = Rose before after × (new ≡ old)
-IsReadingFault Memory old new before after = Unit {0}
-IsReadingFault TooLong old new before after = ⊥
-
--- the sink took a front of the text, and less than all of it only where its count of faults rose
-pub record Writes (text : List ℕ) (old new : Option (List ℕ)) (before after : ℕ) : Type 0 where
-  pub front : AppendsFront old new text
-  pub whole : Appends old new text ⊎ Rose before after
-
--- A fault is told as itself; one of a text as want of memory too, since its line takes memory. Want of memory is told as
--- no fault of a text.
-abbrev pub IsToldAs : Fault → Fault → Type 0
-IsToldAs (Text told) fault = ((fault ≡ Text told) × (told.kind ≢ NoMemory)) ⊎ (fault ≡ Memory)
-IsToldAs Usage fault = fault ≡ Usage
-IsToldAs Read fault = fault ≡ Read
-IsToldAs Memory fault = fault ≡ Memory
-IsToldAs TooLong fault = fault ≡ TooLong
-
--- a fault was told: its status, and its line to the sink
-pub record Tells (fault : Fault) (status : ℕ) (old new : Option (List ℕ)) (before after : ℕ) : Type 0 where
+-- the fault's line went to the sink, and its status is the answer
+pub record WritesFault (fault : Fault) (sink : Change SinkState) (status : ℕ) : Type 0 where
   pub number : status ≡ status_of fault
-  pub line : Writes (line_of fault) old new before after
+  pub line : Writes (line_of fault) sink
 
--- The call was refused for a fault that has its reason: its status, its line and nothing else to the sink, and an empty
--- report. The first four values are the source's, the next four the sink's.
-pub record IsRefused (wrong : Type 0) (status : ℕ) (left_old left_new : Option (List ℕ)) (read_before read_after : ℕ) (taken_old taken_new : Option (List ℕ)) (wrote_before wrote_after : ℕ) (report : Report) : Type 0 where
+-- A fault is written as itself; one of a text also as want of memory, since its line takes memory. Want of memory is
+-- written as no fault of a text.
+abbrev pub IsWrittenAs : Fault → Fault → Type 0
+IsWrittenAs (Text fault) written = ((written ≡ Text fault) × (fault.kind ≢ kind.NoMemory)) ⊎ (written ≡ NoMemory)
+IsWrittenAs fault written = written ≡ fault
+
+-- the fault was written, as itself or as what stands for it
+pub record FaultIsWritten (fault : Fault) (sink : Change SinkState) (status : ℕ) : Type 0 where
+  pub written : Fault
+  pub for_it : IsWrittenAs fault written
+  pub writes : WritesFault written sink status
+
+-- The call was refused for a fault that has its cause, which the command gives: its status, its line and nothing else
+-- to the sink, and an empty report.
+pub record IsRefused {D : Type 0} (cause : Fault → Type 0) (call : Call D) : Type 0 where
   pub fault : Fault
-  pub reason : HasReason wrong fault left_old left_new read_before read_after
-  pub told : Tells fault status taken_old taken_new wrote_before wrote_after
-  pub nothing : IsEmpty report
+  pub reason : cause fault
+  pub writes : WritesFault fault call.sink call.status
+  pub nothing : IsEmpty call.report

@@ -31,19 +31,19 @@ abbrev pub IsBudget : Option Text → ℕ → Type 0
 IsBudget None splits = splits ≡ 4096
 IsBudget (Some text) splits = SpellsBudget text splits
 
--- `clap` takes the words after the first: it knows them, none asks for help, and no option comes twice
-unfoldable pub AreTaken : List Text → Type 0
-AreTaken words = takes solve_line words ≡ true
+-- `clap` takes the words after the first for this line: it knows them, none asks for help, and no option comes twice
+unfoldable pub AreTaken : App → List Text → Type 0
+AreTaken line words = takes line words ≡ true
 
--- the value of `--budget`, in the matches that `clap` defines for the words after the first
-unfoldable pub budget_text : List Text → Option Text
-budget_text words = first_of (codes "budget") (matches_of solve_line words)
+-- the value of the option or argument of this name, in the matches that `clap` defines for the words after the first
+unfoldable pub value_among : App → Text → List Text → Option Text
+value_among line name words = first_of name (matches_of line words)
 
 -- the first word is `solve`, the words after it are taken, and the value among them gives the budget
 pub record AsksToSolve (words : List Text) (splits : ℕ) : Type 0 where
   pub first : slice_get words 0 ≡ Some (codes "solve")
-  pub taken : AreTaken words
-  pub budget : IsBudget (budget_text words) splits
+  pub taken : AreTaken solve_line words
+  pub budget : IsBudget (value_among solve_line (codes "budget") words) splits
 
 -- the command is what the words ask for
 abbrev pub IsCommand : List Text → Command → Type 0

@@ -1,12 +1,14 @@
 //! Writing the answers to a session.
 ghost use Rattle.std.specs.Prelude.{◌≡◌, ◌++◌, ◌+◌, ◌<◌, ◌^◌, ℕ, length, IfOk, OnOk, decimal};
 ghost use Rattle.lin_text.specs.Spelling.{line};
-ghost use Rattle.green_cli.specs.AnswersText.{answers_text, executors_text, script_text, answer_text, verdict_text, model_text, value_text, parts_text, part_text, new_text, solved_of, solved_in, solved_count, solved_in_all, HaveAnswers};
+ghost use Rattle.green_cli.specs.AnswersText.{answers_text, executors_text, script_text, answer_text, verdict_text};
+ghost use Rattle.green_cli.specs.AnswersText.{model_text, value_text, parts_text, part_text, new_text, solved_of};
+ghost use Rattle.green_cli.specs.AnswersText.{solved_in, solved_count, solved_in_all, HaveAnswers};
 
 use lin_model::{Condition, Script, Session, Var};
 use lin_text::{push_integer, push_number, push_str};
 use outside::NoMemory;
-use pipeline::{Plain, PlainPart, Told};
+use pipeline::{Plain, PlainPart, Verdict};
 use sqlite_items::Items;
 use std::alloc::Global;
 
@@ -97,17 +99,17 @@ fn push_answer(
 }
 
 #[tactic(auto, unfolding(crate::specs::AnswersText::verdict_text))]
-fn push_verdict(out: &mut Vec<u8>, vars: &[Var], verdict: &Told) -> Result<(), NoMemory>
+fn push_verdict(out: &mut Vec<u8>, vars: &[Var], verdict: &Verdict) -> Result<(), NoMemory>
     ensures { OnOk result (out.new.items ≡ out.old.items ++ verdict_text vars.now verdict.now) }
 {
     match verdict {
-        Told::Sat(values) => {
+        Verdict::Sat(values) => {
             push_str(out, "sat")?;
             push_model(out, vars, values.as_slice())
         }
-        Told::UnsatAtom(atom) => push_numbered(out, "unsat atom ", *atom),
-        Told::UnsatSlice(slice) => push_numbered(out, "unsat slice ", *slice),
-        Told::Unknown(slice) => push_numbered(out, "unknown slice ", *slice),
+        Verdict::UnsatAtom(atom) => push_numbered(out, "unsat atom ", *atom),
+        Verdict::UnsatSlice(slice) => push_numbered(out, "unsat slice ", *slice),
+        Verdict::Unknown(slice) => push_numbered(out, "unknown slice ", *slice),
     }
 }
 

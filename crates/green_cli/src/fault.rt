@@ -1,4 +1,4 @@
-//! Why a call was refused, with the status and the line that tell of it.
+//! Why a call was refused, with the status that says so.
 ghost use Rattle.std.specs.Prelude.{◌≡◌};
 ghost use Rattle.green_cli.specs.Statuses.{status_of};
 
@@ -16,7 +16,7 @@ pub enum Fault {
     /// The source failed. Status 12.
     Read,
     /// Memory ran out. Status 16.
-    Memory,
+    NoMemory,
     /// More than 16,777,216 bytes came. Status 18.
     TooLong,
 }
@@ -30,7 +30,7 @@ impl Fault {
             Fault::Usage => 10,
             Fault::Text(_) => 11,
             Fault::Read => 12,
-            Fault::Memory => 16,
+            Fault::NoMemory => 16,
             Fault::TooLong => 18,
         }
     }
@@ -38,48 +38,49 @@ impl Fault {
 
 impl From<SessionFault> for Fault {
     ghost use Rattle.std.specs.Prelude.{◌≡◌, ◌≢◌, ◌⊎◌};
-    ghost use Rattle.lin_text.specs.declared.fault.SessionKind.TheVariants.{NoMemory};
-    ghost use Rattle.green_cli.specs.declared.fault.Fault.TheVariants.{Memory, Text};
+    ghost use Rattle.lin_text.specs.declared.fault.SessionKind.TheVariants.{NoMemory as NoMemoryKind};
+    ghost use Rattle.green_cli.specs.declared.fault.Fault.TheVariants.{NoMemory, Text};
 
-    ghost from_gives = { λ told fault. ((fault ≡ Memory) × (told.kind ≡ NoMemory)) ⊎ ((fault ≡ Text told) × (told.kind ≢ NoMemory)) };
+    ghost from_gives = { λ from fault.
+        ((fault ≡ NoMemory) × (from.kind ≡ NoMemoryKind)) ⊎ ((fault ≡ Text from) × (from.kind ≢ NoMemoryKind)) };
 
-    fn from(told: SessionFault) -> Fault {
-        match told.kind {
-            SessionKind::NoMemory => Fault::Memory,
-            _ => Fault::Text(told),
+    fn from(fault: SessionFault) -> Fault {
+        match fault.kind {
+            SessionKind::NoMemory => Fault::NoMemory,
+            _ => Fault::Text(fault),
         }
     }
 }
 
 impl From<NoMemory> for Fault {
     ghost use Rattle.std.specs.Prelude.{◌≡◌};
-    ghost use Rattle.green_cli.specs.declared.fault.Fault.TheVariants.{Memory};
+    ghost use Rattle.green_cli.specs.declared.fault.Fault.TheVariants.{NoMemory as Memory};
 
     ghost from_gives = { λ _ fault. fault ≡ Memory };
 
     fn from(_: NoMemory) -> Fault {
-        Fault::Memory
+        Fault::NoMemory
     }
 }
 
 impl From<AllocError> for Fault {
     ghost use Rattle.std.specs.Prelude.{◌≡◌};
-    ghost use Rattle.green_cli.specs.declared.fault.Fault.TheVariants.{Memory};
+    ghost use Rattle.green_cli.specs.declared.fault.Fault.TheVariants.{NoMemory as Memory};
 
     ghost from_gives = { λ _ fault. fault ≡ Memory };
 
     fn from(_: AllocError) -> Fault {
-        Fault::Memory
+        Fault::NoMemory
     }
 }
 
 impl<T: Drop> From<AllocFailed<T>> for Fault {
     ghost use Rattle.std.specs.Prelude.{◌≡◌};
-    ghost use Rattle.green_cli.specs.declared.fault.Fault.TheVariants.{Memory};
+    ghost use Rattle.green_cli.specs.declared.fault.Fault.TheVariants.{NoMemory as Memory};
 
     ghost from_gives = { λ _ fault. fault ≡ Memory };
 
     fn from(_: AllocFailed<T>) -> Fault {
-        Fault::Memory
+        Fault::NoMemory
     }
 }

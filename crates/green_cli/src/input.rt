@@ -1,12 +1,14 @@
 //! Reading a source to its end.
-ghost use Rattle.std.specs.Prelude.{◌≡◌, ◌+◌, ◌++◌, ◌≤◌, ◌<◌, ℕ, List, take, length, IfOk, IfErr, MatchResult};
+ghost use Rattle.std.specs.Prelude.{◌≡◌, ◌+◌, ◌++◌, ◌≤◌, ◌<◌, ℕ, List, length, IfOk, IfErr, OnOk, MatchResult};
 ghost use Rattle.outside.specs.Bytes.{IsAtEnd};
-ghost use Rattle.outside.specs.Counts.{Rose};
-ghost use Rattle.green_cli.specs.Input.{Consumes, TakesAtMost, WasRead, max_input};
-ghost use Rattle.green_cli.specs.Statuses.{HasReason, IsReadingFault};
+ghost use Rattle.green_cli.specs.Call.{change};
+ghost use Rattle.green_cli.specs.Input.{Consumes, InputWasRead, NoReadFailed, PieceFails, TakesAtMost, WasRead};
+ghost use Rattle.green_cli.specs.Input.{input_cause, max_input, session_cause};
 
 use crate::fault::Fault;
+use lin_model::Session;
 use outside::Source;
+use session_text::read_session;
 use std::alloc::Global;
 
 /// The most bytes of an input.
@@ -15,13 +17,25 @@ pub const MAX_INPUT: usize = 16_777_216;
 /// How many bytes are asked of the source in one read.
 const PIECE: usize = 65_536;
 
-/// All that the source has left, read in at most one turn a byte. `TooLong` comes where it gives more than `MAX_INPUT`
-/// bytes, and `Read` where it fails before; it is asked no further then.
-pub fn read_input<S: Source>(alloc: Global, source: &mut S) -> Result<Vec<u8>, Fault>
+/// The session that the bytes of the source spell, read to their end. `Text` is the first fault of bytes that spell
+/// none, `TooLong` comes where there are more than `MAX_INPUT`, and `Read` where the source fails before.
+pub fn take_session<S: Source>(alloc: Global, source: &mut S) -> Result<Session, Fault>
     ensures read { MatchResult result
-        (λ bytes. WasRead (S.left source.old) (S.left source.new) bytes.items)
-        (λ fault. HasReason ⊥ fault (S.left source.old) (S.left source.new) (S.faults source.old) (S.faults source.new)) }
-    ensures bounded { TakesAtMost (max_input + 1) (S.left source.old) (S.left source.new) }
+        (λ session. InputWasRead (change (S.state source.old) (S.state source.new)) session)
+        (session_cause (change (S.state source.old) (S.state source.new))) }
+    ensures bounded { TakesAtMost (max_input + 1) (change (S.state source.old) (S.state source.new)) }
+{
+    let bytes = read_input(alloc, source)?;
+    Ok(read_session(alloc, bytes.as_slice())?)
+}
+
+/// All that the source has left, read in at most one turn a byte. `TooLong` comes where it gives more than `MAX_INPUT`
+/// bytes, and `Read` where it fails before.
+fn read_input<S: Source>(alloc: Global, source: &mut S) -> Result<Vec<u8>, Fault>
+    ensures read { MatchResult result
+        (λ bytes. WasRead (change (S.state source.old) (S.state source.new)) bytes.items)
+        (input_cause (change (S.state source.old) (S.state source.new))) }
+    ensures bounded { TakesAtMost (max_input + 1) (change (S.state source.old) (S.state source.new)) }
 {
     let mut bytes = Vec::new(alloc);
     let mut buffer = [0; PIECE];
@@ -45,11 +59,13 @@ fn read_piece<S: Source>(
 ) -> Result<usize, Fault>
     ensures count { IfOk result (λ n. n ≤ length buffer.new) }
     ensures len { IfOk result (λ n. length bytes.new.items ≡ length bytes.old.items + n) }
-    ensures taken { IfOk result (λ n. (piece : List ℕ) × Consumes (S.left source.old) (S.left source.new) piece × (bytes.new.items ≡ bytes.old.items ++ piece)) }
-    ensures end { IfOk result (λ n. n ≡ 0 → 0 < length buffer.old → IsAtEnd (S.left source.old)) }
-    ensures reason { IfErr result (λ fault. IsReadingFault fault (S.left source.old) (S.left source.new) (S.faults source.old) (S.faults source.new)) }
-    ensures bounded { TakesAtMost (length buffer.old) (S.left source.old) (S.left source.new) }
-    ensures later { S.faults source.old ≤ S.faults source.new }
+    ensures taken { IfOk result (λ n. (piece : List ℕ)
+        × Consumes (S.state source.old).left (S.state source.new).left piece
+        × (bytes.new.items ≡ bytes.old.items ++ piece)) }
+    ensures end { IfOk result (λ n. n ≡ 0 → 0 < length buffer.old → IsAtEnd (S.state source.old).left) }
+    ensures unfailed { OnOk result (NoReadFailed (change (S.state source.old) (S.state source.new))) }
+    ensures cause { IfErr result (PieceFails (change (S.state source.old) (S.state source.new))) }
+    ensures bounded { TakesAtMost (length buffer.old) (change (S.state source.old) (S.state source.new)) }
 {
     match source.read(buffer) {
         Ok(n) => {

@@ -3,6 +3,7 @@
 
 mod answering;
 mod answers_text;
+mod ending;
 mod fault;
 mod input;
 mod laws;
@@ -13,8 +14,10 @@ mod solve;
 mod words;
 
 pub use fault::Fault;
-pub use laws::{commands_are_unique, lines_ask, lines_ask_nothing};
+pub use laws::{
+    commands_are_unique, lines_ask, lines_ask_nothing, statuses_of_solve, statuses_of_words,
+};
 pub use outcome::{Outcome, Report};
-pub use refusal::tell;
+pub use refusal::write_fault;
 pub use run::{green, run_once};
 pub use words::{Budget, Command, WordsFault, read_words};

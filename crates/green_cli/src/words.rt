@@ -1,13 +1,16 @@
 //! The words of a command line.
-ghost use Rattle.std.specs.Prelude.{◌≡◌, ◌≢◌, ◌↔◌, ◌<◌, ◌≤◌, ◌^◌, ℕ, Some, map, option_map, slice_get, IsTrue, IfOk, MatchOption, OnOk, codes};
+ghost use Rattle.std.specs.Prelude.{◌≡◌, ◌≢◌, ◌↔◌, ◌<◌, ◌≤◌, ◌^◌, ℕ, Some, map, option_map, slice_get};
+ghost use Rattle.std.specs.Prelude.{IsTrue, IfOk, MatchOption, OnOk, codes};
 ghost use Rattle.std.specs.String.{string_bytes};
 ghost use Rattle.clap.specs.Words.{app_of};
-ghost use Rattle.green_cli.specs.Words.{AreCommand, AreTaken, IsCommand, IsNumber, SpellsBudget, budget_text, solve_line};
+ghost use Rattle.green_cli.specs.Words.{AreCommand, AreTaken, IsCommand, IsNumber, SpellsBudget, solve_line};
+ghost use Rattle.green_cli.specs.Words.{value_among};
 
 use clap::error::ErrorKind;
 use clap::{Arg, ArgAction};
 use std::alloc::{AllocError, Global};
 use std::marker::Model;
+use thiserror::Error;
 
 /// The most splits that a query may be given for a slice.
 pub const MAX_BUDGET: u32 = 100_000;
@@ -57,18 +60,20 @@ impl Budget {
 }
 
 /// What the words ask for.
-#[derive(Clone, Copy, Debug, PartialEq, Eq)]
+#[derive(Debug, Drop, PartialEq, Eq)]
 pub enum Command {
     /// Reads a session, answers its queries in order, and writes the answers.
     Solve { budget: Budget },
 }
 
 /// Why words are no command.
-#[derive(Clone, Copy, Debug, PartialEq, Eq)]
+#[derive(Clone, Copy, Debug, PartialEq, Eq, Error)]
 pub enum WordsFault {
     /// They aren't the words of a command.
+    #[error("the words ask for no command")]
     Usage,
     /// Memory ran out.
+    #[error("out of memory")]
     NoMemory,
 }
 
@@ -88,7 +93,8 @@ impl From<clap::Error> for WordsFault {
     ghost use Rattle.clap.specs.declared.error.kind.ErrorKind.TheVariants.{OutOfMemory};
     ghost use Rattle.green_cli.specs.declared.words.WordsFault.TheVariants.{NoMemory, Usage};
 
-    ghost from_gives = { λ error fault. ((fault ≡ NoMemory) × (kind_of error ≡ OutOfMemory)) ⊎ ((fault ≡ Usage) × (kind_of error ≢ OutOfMemory)) };
+    ghost from_gives = { λ error fault. ((fault ≡ NoMemory) × (kind_of error ≡ OutOfMemory))
+        ⊎ ((fault ≡ Usage) × (kind_of error ≢ OutOfMemory)) };
 
     fn from(error: clap::Error) -> WordsFault {
         if error.kind() == ErrorKind::OutOfMemory {
@@ -144,9 +150,10 @@ fn solve_command<'a>(alloc: Global) -> Result<clap::Command<'a>, AllocError>
 
 /// The value of `--budget`, where the words give it.
 fn budget_value<'a>(alloc: Global, words: &'a [String]) -> Result<Option<&'a str>, WordsFault>
-    ensures taken { OnOk result (AreTaken (map string_bytes words.entry.now)) }
-    ensures value { IfOk result (λ value. option_map (λ text. text.now) value ≡ budget_text (map string_bytes words.entry.now)) }
-    ensures usage { result ≡ Err WordsFault.Usage → ¬ AreTaken (map string_bytes words.entry.now) }
+    ensures taken { OnOk result (AreTaken solve_line (map string_bytes words.entry.now)) }
+    ensures value { IfOk result (λ value. option_map (λ text. text.now) value
+        ≡ value_among solve_line (codes "budget") (map string_bytes words.entry.now)) }
+    ensures usage { result ≡ Err WordsFault.Usage → ¬ AreTaken solve_line (map string_bytes words.entry.now) }
 {
     let matches = solve_command(alloc)?.try_get_matches_from(words)?;
     Ok(matches.get_str("budget"))

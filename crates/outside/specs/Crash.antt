@@ -1,5 +1,7 @@
 -- What the calls of a disk do to its file, and what a crash may leave of it.
-use Rattle.std.specs.Prelude.{◌≡◌, ◌⊎◌, ◌↔◌, ℕ, ◌+◌, ◌-◌, ◌≤◌, min, max, List, ◌++◌, length, take, drop, ⊤, Option, None, Some, IfSome}
+use Rattle.std.specs.Prelude.{◌≡◌, ◌⊎◌, ◌↔◌, ℕ, ◌+◌, ◌-◌, ◌≤◌, min, max, List, ◌++◌, length, take, drop, ⊤, Option}
+use Rattle.std.specs.Prelude.{None, Some, IsTrue, IsSome, IfSome}
+use Rattle.outside.specs.States.{DiskState}
 
 -- a write may begin here: not past the end of the file, where that is told
 abbrev pub IsWithin : Option (List ℕ) → ℕ → Type 0
@@ -19,8 +21,8 @@ abbrev pub WritesAt : Option (List ℕ) → Option (List ℕ) → ℕ → List �
 WritesAt None new at bytes = new ≡ None
 WritesAt (Some file) new at bytes = new ≡ Some (take at file ++ bytes ++ drop (at + length bytes) file)
 
--- Any bytes in the range of n bytes from `at` on and past the old end, which may have moved as far as the range reaches.
--- All else is as it was.
+-- Any bytes in the range of n bytes from `at` on and past the old end, which may have moved as far as the range
+-- reaches. All else is as it was.
 pub record Torn (at n : ℕ) (old new : List ℕ) : Type 0 where
   pub before : take (min at (length old)) new ≡ take at old
   pub after : drop (at + n) new ≡ drop (at + n) old
@@ -36,25 +38,40 @@ TearsAt (Some file) new at n = (torn : List ℕ) × Torn at n file torn × (new 
 abbrev pub Synced : Option (List ℕ) → (List ℕ → Type 0) → Type 0
 Synced content may_leave = IfSome content (λ file. (image : List ℕ) → may_leave image ↔ (image ≡ file))
 
--- a crash leaves something
-pub record LeavesSome (may_leave : List ℕ → Type 0) : Type 0 where
-  pub image : List ℕ
-  pub left : may_leave image
-
--- a crash may leave the same images as before
-abbrev pub SameImages : (List ℕ → Type 0) → (List ℕ → Type 0) → Type 0
-SameImages old new = (image : List ℕ) → new image ↔ old image
-
--- of each moment up to this one the same is told as before
-abbrev pub SamePast : ℕ → (ℕ → List ℕ → Type 0) → (ℕ → List ℕ → Type 0) → Type 0
-SamePast moment old new = (t : ℕ) (image : List ℕ) → t ≤ moment → new t image ↔ old t image
-
 -- each new image is an old one after a step
 abbrev pub Follows : (List ℕ → List ℕ → Type 0) → (List ℕ → Type 0) → (List ℕ → Type 0) → Type 0
 Follows step old new = (image : List ℕ) → new image → (from : List ℕ) × old from × step from image
 
+-- What a disk tells of its file is as before: what a read gives, the images that a crash may leave now, and those of
+-- each moment up to this one.
+pub record Looks (old new : DiskState) : Type 0 where
+  pub content : new.content ≡ old.content
+  pub images : IsTrue old.tells_images → (image : List ℕ) → new.may_leave image ↔ old.may_leave image
+  pub past : IsTrue old.tells_images → (t : ℕ) (image : List ℕ) → t ≤ old.moment
+      → new.left_since t image ↔ old.left_since t image
+
 -- Time goes on: a crash since t might have left what it might have left before, or what it may leave now.
-pub record Elapses (before now : ℕ) (past since : ℕ → List ℕ → Type 0) (may_leave : List ℕ → Type 0) : Type 0 where
-  pub later : before ≤ now
-  pub nothing_else : (t : ℕ) (image : List ℕ) → t ≤ before → since t image → past t image ⊎ may_leave image
-  pub keeps : (t : ℕ) (image : List ℕ) → t ≤ before → past t image → since t image
+pub record Elapses (old new : DiskState) : Type 0 where
+  pub later : old.moment ≤ new.moment
+  pub nothing_else : (t : ℕ) (image : List ℕ) → t ≤ old.moment
+      → new.left_since t image → old.left_since t image ⊎ new.may_leave image
+  pub keeps : (t : ℕ) (image : List ℕ) → t ≤ old.moment → old.left_since t image → new.left_since t image
+
+-- What every call leaves: whether the disk tells its images and whether they keep the rules; and if they do, time
+-- goes on.
+pub record GoesOn (old new : DiskState) : Type 0 where
+  pub telling : new.tells_images ≡ old.tells_images
+  pub rules : new.keeps_rules ≡ old.keeps_rules
+  pub time : IsTrue old.keeps_rules → Elapses old new
+
+-- What a disk tells fits together. One whose images keep the rules tells them, and its content, which is always one of
+-- the images that a crash may leave. This moment is one of those since an earlier one, and since this one there is no
+-- other.
+pub record IsConsistent (disk : DiskState) : Type 0 where
+  pub tells : IsTrue disk.keeps_rules → IsTrue disk.tells_images
+  pub tells_content : IsTrue disk.keeps_rules → IsSome disk.content
+  pub may_stay : IsTrue disk.keeps_rules → IfSome disk.content disk.may_leave
+  pub counts_now : IsTrue disk.keeps_rules → (t : ℕ) (image : List ℕ) → t ≤ disk.moment
+      → disk.may_leave image → disk.left_since t image
+  pub only_now : IsTrue disk.keeps_rules → (image : List ℕ)
+      → disk.left_since disk.moment image → disk.may_leave image

@@ -1,5 +1,6 @@
 //! A sink in memory that fails at the calls that it is told to fail at.
-ghost use Rattle.std.specs.Prelude.{◌≡◌, ◌+◌, ◌/◌, ◌<◌, ◌≤◌, ◌⊎◌, [], ◌++◌, length, take, Some, Contains, OnOk, OnErr, IsErr};
+ghost use Rattle.std.specs.Prelude.{◌≡◌, ◌+◌, ◌/◌, ◌<◌, ◌≤◌, ◌⊎◌, [], ◌++◌, length, take, Some, Contains, OnOk};
+ghost use Rattle.std.specs.Prelude.{OnErr, IsErr};
 ghost use Rattle.outside.specs.Bytes.{Appends, AppendsFront};
 ghost use Rattle.outside.specs.Counts.{raised, Rose, HasCause};
 ghost use Rattle.outside.specs.MemSink.{sink_faults};
@@ -24,7 +25,13 @@ impl Model for MemSink {
 
     ghost Value = { MemSinkState };
 
-    ghost view = { λ s. record { taken = s.taken.items; failing = s.failing.items; calls = s.calls; listed = s.listed; starved = s.starved } };
+    ghost view = { λ s. record {
+      taken = s.taken.items;
+      failing = s.failing.items;
+      calls = s.calls;
+      listed = s.listed;
+      starved = s.starved;
+    } };
 }
 
 impl MemSink {
@@ -57,9 +64,7 @@ impl MemSink {
 }
 
 impl Sink for MemSink {
-    ghost taken = { λ sink. Some sink.taken };
-
-    ghost faults = { sink_faults };
+    ghost state = { λ sink. record { taken = Some sink.taken; faults = sink_faults sink } };
 
     /// A listed call fails when the sink has taken half of the piece, of 5 bytes 2. A call for which memory ran out
     /// fails and takes nothing, listed or not.
@@ -71,15 +76,18 @@ impl Sink for MemSink {
         // When it fails.
         ensures listed_fails { Contains self.old.failing self.old.calls → IsErr result }
         ensures starved_fails { self.old.starved < self.new.starved → IsErr result }
-        ensures else_succeeds { OnErr result (Contains self.old.failing self.old.calls ⊎ Rose self.old.starved self.new.starved) }
+        ensures else_succeeds { OnErr result
+            (Contains self.old.failing self.old.calls ⊎ Rose self.old.starved self.new.starved) }
 
         // What a write that fails takes.
         ensures half { Contains self.old.failing self.old.calls → ¬ Rose self.old.starved self.new.starved
             → self.new.taken ≡ self.old.taken ++ take (length piece.now / 2) piece.now }
         ensures nothing { self.old.starved < self.new.starved → self.new.taken ≡ self.old.taken }
-        ensures unlisted { ¬ Contains self.old.failing self.old.calls → OnErr result (self.new.taken ≡ self.old.taken) }
+        ensures unlisted { ¬ Contains self.old.failing self.old.calls
+            → OnErr result (self.new.taken ≡ self.old.taken) }
         ensures half_or_nothing { Contains self.old.failing self.old.calls
-            → (self.new.taken ≡ self.old.taken ++ take (length piece.now / 2) piece.now) ⊎ (self.new.taken ≡ self.old.taken) }
+            → (self.new.taken ≡ self.old.taken ++ take (length piece.now / 2) piece.now)
+            ⊎ (self.new.taken ≡ self.old.taken) }
 
         // The counts.
         ensures failing { self.new.failing ≡ self.old.failing }

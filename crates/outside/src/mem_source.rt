@@ -1,5 +1,6 @@
 //! A source in memory that fails at the calls that it is told to fail at.
-ghost use Rattle.std.specs.Prelude.{◌≡◌, ◌<◌, ◌≤◌, ◌↔◌, [], length, drop, min, if◌then◌else◌, is_err, Some, Contains, IfOk, OnErr, IsErr};
+ghost use Rattle.std.specs.Prelude.{◌≡◌, ◌<◌, ◌≤◌, ◌↔◌, [], length, drop, min, if◌then◌else◌, is_err, Some, Contains};
+ghost use Rattle.std.specs.Prelude.{IfOk, OnOk, OnErr, IsErr};
 ghost use Rattle.outside.specs.Bytes.{Gives, IsAtEnd};
 ghost use Rattle.outside.specs.Counts.{raised, HasCause};
 
@@ -23,7 +24,12 @@ impl Model for MemSource {
 
     ghost Value = { MemSourceState };
 
-    ghost view = { λ s. record { left = drop s.at s.bytes.items; failing = s.failing.items; calls = s.calls; faults = s.faults } };
+    ghost view = { λ s. record {
+      left = drop s.at s.bytes.items;
+      failing = s.failing.items;
+      calls = s.calls;
+      faults = s.faults;
+    } };
 
     ghost invariant = { λ s. s.at ≤ length s.bytes.items };
 }
@@ -44,9 +50,7 @@ impl MemSource {
 }
 
 impl Source for MemSource {
-    ghost left = { λ source. Some source.left };
-
-    ghost faults = { λ source. source.faults };
+    ghost state = { λ source. record { left = Some source.left; faults = source.faults } };
 
     /// Gives as many bytes as are left and fit. It fails exactly where the call's number is listed.
     fn read(&mut self, buf: &mut [u8]) -> Result<usize, Failed>
@@ -54,6 +58,7 @@ impl Source for MemSource {
         ensures moved { IfOk result (Gives (Some self.old.left) (Some self.new.left) buf.new) }
         ensures end { IfOk result (λ n. n ≡ 0 → 0 < length buf.old → IsAtEnd (Some self.old.left)) }
         ensures stays { OnErr result (self.new.left ≡ self.old.left) }
+        ensures unfailed { OnOk result (self.new.faults ≡ self.old.faults) }
         ensures cause { HasCause self.old.faults self.new.faults result }
 
         ensures listed { IsErr result ↔ Contains self.old.failing self.old.calls }

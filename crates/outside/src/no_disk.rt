@@ -1,7 +1,8 @@
 //! No disk at all.
-ghost use Rattle.std.specs.Prelude.{◌≡◌, ℕ, false, ⊤, [], None, IsErr};
+ghost use Rattle.std.specs.Prelude.{◌≡◌, IsErr};
 ghost use Rattle.std.proofs.Common.{rules};
 ghost use Rattle.outside.specs.Counts.{raised, HasCause};
+ghost use Rattle.outside.specs.NoDisk.{no_disk};
 
 use crate::{Disk, Failed};
 use std::marker::Model;
@@ -13,6 +14,8 @@ pub struct NoDisk {
 }
 
 impl Model for NoDisk {
+    ghost use Rattle.std.specs.Prelude.{ℕ};
+
     ghost Value = { ℕ };
 
     ghost view = { λ disk. disk.faults };
@@ -37,31 +40,9 @@ impl NoDisk {
 }
 
 impl Disk for NoDisk {
-    ghost bound_name = { λ _. None };
+    ghost state = { no_disk };
 
-    ghost content = { λ _. None };
-
-    ghost tells_images = { λ _. false };
-
-    ghost keeps_rules = { λ _. false };
-
-    ghost may_leave = { λ _ _. ⊤ };
-
-    ghost moment = { λ _. 0 };
-
-    ghost left_since = { λ _ _ _. ⊤ };
-
-    ghost faults = { λ count. count };
-
-    ghost rules_are_told = { λ _ told. told };
-
-    ghost rules_tell_content = { Prim.search rules };
-
-    ghost leaves_some = { λ _ _. record { image = []; left = tt } };
-
-    ghost counts_now = { Prim.search rules };
-
-    ghost only_now = { Prim.search rules };
+    ghost consistent = { Prim.search rules };
 
     fn bind(&mut self, _name: &str) -> Result<(), Failed>
         ensures failed { IsErr result }

@@ -7,7 +7,8 @@ use crate::{Failed, Sink};
 use std::io::{ErrorKind, Write};
 use std::marker::Model;
 
-/// Writes to a writer of std. As a sink it tells nothing of the bytes taken; contracts see it as the writer and its count of faults.
+/// Writes to a writer of std. As a sink it tells nothing of the bytes taken; contracts see it as the writer and its
+/// count of faults.
 #[derive(Drop)]
 pub struct StdSink<W> {
     writer: W,
@@ -32,9 +33,7 @@ impl<W: Write> StdSink<W> {
 }
 
 impl<W: Write> Sink for StdSink<W> {
-    ghost taken = { λ _. None };
-
-    ghost faults = { λ sink. sink.faults };
+    ghost state = { λ sink. record { taken = None; faults = sink.faults } };
 
     /// Writes until the writer has taken the whole piece, and flushes it. A writer that takes nothing has failed, and
     /// a call that a signal interrupted is made again. Only a fault raises the count, by one.

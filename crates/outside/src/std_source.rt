@@ -1,5 +1,5 @@
 //! A reader of std as a source.
-ghost use Rattle.std.specs.Prelude.{◌≡◌, ◌≤◌, None, length, if◌then◌else◌, is_err, IfOk};
+ghost use Rattle.std.specs.Prelude.{◌≡◌, ◌≤◌, None, length, if◌then◌else◌, is_err, IfOk, OnOk};
 ghost use Rattle.std.specs.Io.KnownBytes.{ReadConsumes};
 ghost use Rattle.outside.specs.Counts.{raised, HasCause};
 
@@ -7,7 +7,8 @@ use crate::{Failed, Source};
 use std::io::{ErrorKind, Read};
 use std::marker::Model;
 
-/// Reads from a reader of std. As a source it tells nothing of the bytes left; contracts see it as the reader and its count of faults.
+/// Reads from a reader of std. As a source it tells nothing of the bytes left; contracts see it as the reader and its
+/// count of faults.
 #[derive(Drop)]
 pub struct StdSource<R> {
     reader: R,
@@ -32,15 +33,14 @@ impl<R: Read> StdSource<R> {
 }
 
 impl<R: Read> Source for StdSource<R> {
-    ghost left = { λ _. None };
-
-    ghost faults = { λ source. source.faults };
+    ghost state = { λ source. record { left = None; faults = source.faults } };
 
     /// One read of the reader, with its bytes where the reader tells them. An error is a fault, but for an
     /// interruption, after which it reads again. Only a fault raises the count, by one.
     fn read(&mut self, buf: &mut [u8]) -> Result<usize, Failed>
         ensures bound { IfOk result (λ n. n ≤ length buf.new) }
         ensures bytes { ReadConsumes (R.remaining self.old.end) (R.remaining self.new.end) result buf.new }
+        ensures unfailed { OnOk result (self.new.faults ≡ self.old.faults) }
         ensures cause { HasCause self.old.faults self.new.faults result }
         ensures counted { self.new.faults ≡ (if is_err result then raised self.old.faults else self.old.faults) }
     {

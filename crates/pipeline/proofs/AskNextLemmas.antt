@@ -1,5 +1,6 @@
 -- One slice more can be asked, whatever was found before.
-use Rattle.std.proofs.Common.{◌≡◌, ℕ, ◌+◌, ◌<◌, ℤ, pos, Option, Some, None, List, [], ◌∷◌, ◌++◌, length, take, get_or, replicate, ◌⊎◌, inl, inr, sym, subst, arith}
+use Rattle.std.proofs.Common.{◌≡◌, ℕ, ◌+◌, ◌<◌, ℤ, pos, Option, Some, None, List, [], ◌∷◌, ◌++◌, length, take, get_or}
+use Rattle.std.proofs.Common.{replicate, ◌⊎◌, inl, inr, sym, subst, arith}
 use Rattle.std.specs.List.{All}
 use Rattle.std.specs.Option.{unwrap_or}
 use Rattle.std.proofs.lemmas.List.{get_or_default, length-replicate, length-take-le}
@@ -11,12 +12,13 @@ use Rattle.refutation.specs.Tree.{PlainTree}
 use Rattle.refutation.specs.declared.leaf.LeafTerm.{LeafTerm}
 use Rattle.refutation.specs.declared.node.Node.{Node}
 use Rattle.box_solver.specs.declared.found.Found.{Found}
-use Rattle.box_solver.specs.declared.found.Found.TheVariants.{Model as FoundModel, Refuted as FoundRefuted, Spent as FoundSpent}
+use Rattle.box_solver.specs.declared.found.Found.TheVariants.{Model as FoundModel, Refuted as FoundRefuted}
+use Rattle.box_solver.specs.declared.found.Found.TheVariants.{Spent as FoundSpent}
 use Rattle.box_solver.specs.Answer.{IsAnswer}
 use Rattle.pipeline.specs.declared.slice_keys.SliceKey.{SliceKey}
 use Rattle.pipeline.specs.declared.answer.PlainPart.{PlainPart}
 use Rattle.pipeline.specs.declared.answer.PlainPart.TheVariants.{Solved, Open}
-use Rattle.pipeline.specs.declared.answer.Told.TheVariants.{UnsatSlice}
+use Rattle.pipeline.specs.declared.answer.Verdict.TheVariants.{UnsatSlice}
 use Rattle.pipeline.specs.Answers.{IsModelOf, IsRefuted, IsSpentOn}
 use Rattle.pipeline.specs.Asking.{IsAsked}
 use Rattle.pipeline.specs.Keyed.{IsKeyed, AreKeyed}
@@ -42,10 +44,17 @@ none_asked budget q keys =
       parts = [];
       least = None;
       values = values;
-      asked = record { leaves = tt; first = All-nil (λ part. part ≡ Solved); long = length-replicate (length q.vars) (pos 0) };
+      asked = record {
+        leaves = tt;
+        first = All-nil (λ part. part ≡ Solved);
+        long =
+            length-replicate (length q.vars) (pos 0);
+      };
     }
 
-asked_more : (budget : ℕ) (q : PlainCondition) (keys : List SliceKey) (i : ℕ) (k : SliceKey) (parts : List PlainPart) (least : Option ℕ) (values : List ℤ) → take (i + 1) keys ≡ take i keys ++ k ∷ [] → IsAsked budget q (take i keys ++ k ∷ []) parts least values → AskedBelow budget q keys (i + 1)
+asked_more : (budget : ℕ) (q : PlainCondition) (keys : List SliceKey) (i : ℕ) (k : SliceKey) (parts : List PlainPart)
+    (least : Option ℕ) (values : List ℤ) → take (i + 1) keys ≡ take i keys ++ k ∷ []
+    → IsAsked budget q (take i keys ++ k ∷ []) parts least values → AskedBelow budget q keys (i + 1)
 asked_more budget q keys i k parts least values more asked = record {
   parts = parts;
   least = least;
@@ -63,7 +72,8 @@ pub record Next (q : PlainCondition) (keys : List SliceKey) (h : AreKeyed q keys
   pub apart : AreOthers (take i keys) k
   pub declared : All (λ v. v < length q.vars) k.back
 
-pub next_of : SlicesPartition → (q : PlainCondition) → IsCondition q → (keys : List SliceKey) (h : AreKeyed q keys) → All KeepsLimits keys → (i : ℕ) → i < length keys → Next q keys h i
+pub next_of : SlicesPartition → (q : PlainCondition) → IsCondition q → (keys : List SliceKey) (h : AreKeyed q keys)
+    → All KeepsLimits keys → (i : ℕ) → i < length keys → Next q keys h i
 next_of parts q fits keys h limits i lt =
     let any : SliceKey = record { key = []; back = [] } in
     let k = get_or keys i any in
@@ -78,24 +88,41 @@ next_of parts q fits keys h limits i lt =
       declared = declared_at q keys h i k lt read;
     }
 
-pub ask_next : RefutedHasNoPoint → (budget : ℕ) (q : PlainCondition) (keys : List SliceKey) (h : AreKeyed q keys) (i : ℕ) → (next : Next q keys h i) → AskedBelow budget q keys i → (found : Found) (nodes : List Node) (terms : List LeafTerm) → IsAnswer next.k.key budget found nodes terms → AskedBelow budget q keys (i + 1) ⊎ HasRightAnswer budget q
+pub ask_next : RefutedHasNoPoint → (budget : ℕ) (q : PlainCondition) (keys : List SliceKey) (h : AreKeyed q keys)
+    (i : ℕ) → (next : Next q keys h i) → AskedBelow budget q keys i
+    → (found : Found) (nodes : List Node) (terms : List LeafTerm) → IsAnswer next.k.key budget found nodes terms
+    → AskedBelow budget q keys (i + 1) ⊎ HasRightAnswer budget q
 ask_next no_point budget q keys h i next before (FoundModel point) nodes terms answer =
     let k = next.k in
     let model : IsModelOf budget k.key point.items = record { nodes = nodes; terms = terms; tree = answer } in
-    let within : All (λ v. v < length before.values) k.back = λ n d lt. omega (arith, next.declared n d lt, before.asked.long) in
-    let placed = place_below before.values k.back point.items next.limits.distinct within (length k.back) (omega arith) in
-    inl (asked_more budget q keys i k (before.parts ++ Solved ∷ []) before.least placed.new (front_more keys i k next.within next.read)
-    (ask_model budget q (take i keys) before.parts before.least before.values placed.new k point.items before.asked next.apart model next.here.width placed.long placed.placed placed.others))
+    let within : All (λ v. v < length before.values) k.back =
+    λ n d lt. omega (arith, next.declared n d lt, before.asked.long) in
+    let placed = place_below before.values k.back point.items next.limits.distinct within (length k.back)
+    (omega arith) in
+    inl (asked_more budget q keys i k (before.parts ++ Solved ∷ []) before.least placed.new
+    (front_more keys i k next.within next.read)
+    (ask_model budget q (take i keys) before.parts before.least before.values placed.new k point.items before.asked
+    next.apart model next.here.width placed.long placed.placed placed.others))
 ask_next no_point budget q keys h i next before FoundRefuted nodes terms answer =
     let k = next.k in
-    let refuted : IsRefuted budget k.key = record { nodes = nodes; terms = terms; tree = answer; none = no_point k.key nodes terms next.limits.key answer.refutes } in
+    let refuted : IsRefuted budget k.key =
+    record {
+      nodes = nodes;
+      terms = terms;
+      tree = answer;
+      none =
+          no_point k.key nodes terms next.limits.key answer.refutes;
+    } in
     inr (record {
       answer = record { verdict = UnsatSlice i; parts = before.parts ++ Solved ∷ [] };
-      right = right_unsat budget q keys h before.parts before.least before.values i k next.within next.read before.asked (length-take-le i keys (omega (arith, next.within))) refuted;
+      right = right_unsat budget q keys h before.parts before.least before.values i k next.within next.read
+          before.asked (length-take-le i keys (omega (arith, next.within))) refuted;
     })
 ask_next no_point budget q keys h i next before FoundSpent nodes terms answer =
     let k = next.k in
     let tree : PlainTree = record { nodes = nodes; terms = terms } in
     let spent : IsSpentOn budget k.key tree = record { open_tree = answer.open_tree; below_room = answer.below_room } in
-    inl (asked_more budget q keys i k (before.parts ++ Open tree ∷ []) (Some (unwrap_or before.least i)) before.values (front_more keys i k next.within next.read)
-    (ask_open budget q (take i keys) before.parts before.least before.values k tree i before.asked spent (sym (length-take-le i keys (omega (arith, next.within))))))
+    inl (asked_more budget q keys i k (before.parts ++ Open tree ∷ []) (Some (unwrap_or before.least i)) before.values
+    (front_more keys i k next.within next.read)
+    (ask_open budget q (take i keys) before.parts before.least before.values k tree i before.asked spent
+    (sym (length-take-le i keys (omega (arith, next.within))))))

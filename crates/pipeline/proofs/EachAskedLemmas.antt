@@ -10,7 +10,7 @@ use Rattle.refutation.specs.Laws.{RefutedHasNoPoint, BoundedIsBoxed}
 use Rattle.box_solver.specs.Laws.{EachHasAnswer as EachKeyHasAnswer}
 use Rattle.pipeline.specs.declared.slice_keys.SliceKey.{SliceKey}
 use Rattle.pipeline.specs.declared.answer.PlainPart.{PlainPart}
-use Rattle.pipeline.specs.declared.answer.Told.TheVariants.{Sat, UnsatAtom, Unknown}
+use Rattle.pipeline.specs.declared.answer.Verdict.TheVariants.{Sat, UnsatAtom, Unknown}
 use Rattle.pipeline.specs.Asking.{IsAsked}
 use Rattle.pipeline.specs.Keyed.{AreKeyed}
 use Rattle.pipeline.specs.Laws.{HasRightAnswer, EachHasAnswer}

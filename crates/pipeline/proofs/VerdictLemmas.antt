@@ -16,7 +16,7 @@ use Rattle.canoniser.specs.Solutions.{IsFalse, IsFalseAt, point_of}
 use Rattle.pipeline.specs.declared.slice_keys.SliceKey.{SliceKey}
 use Rattle.pipeline.specs.declared.answer.PlainPart.{PlainPart}
 use Rattle.pipeline.specs.declared.answer.PlainPart.TheVariants.{Solved, Open}
-use Rattle.pipeline.specs.declared.answer.Told.TheVariants.{Sat, UnsatAtom, UnsatSlice, Unknown}
+use Rattle.pipeline.specs.declared.answer.Verdict.TheVariants.{Sat, UnsatAtom, UnsatSlice, Unknown}
 use Rattle.pipeline.specs.Answers.{IsModelOf, IsRefuted, IsGivenBy, Leaves, HasNoModel, IsRightAnswer}
 use Rattle.pipeline.specs.Keyed.{IsKeyed, AreKeyed, HasLeastFalse}
 use Rattle.pipeline.specs.Asking.{KeyLeaves, IsMet, IsAsked}

@@ -18,8 +18,8 @@ use Rattle.box_solver.specs.declared.found.Found.TheVariants.{Model as FoundMode
 use Rattle.box_solver.specs.declared.found.Found.TheVariants.{Spent as FoundSpent}
 use Rattle.pipeline.specs.declared.solving.Reply.{Reply}
 use Rattle.pipeline.specs.declared.solving.Reply.TheVariants.{Model, Refuted, Spent}
-use Rattle.pipeline.specs.declared.answer.Told.{Told}
-use Rattle.pipeline.specs.declared.answer.Told.TheVariants.{Sat, UnsatAtom, UnsatSlice, Unknown}
+use Rattle.pipeline.specs.declared.answer.Verdict.{Verdict}
+use Rattle.pipeline.specs.declared.answer.Verdict.TheVariants.{Sat, UnsatAtom, UnsatSlice, Unknown}
 use Rattle.pipeline.specs.declared.answer.PlainPart.{PlainPart}
 use Rattle.pipeline.specs.declared.answer.PlainPart.TheVariants.{Solved, Open}
 use Rattle.pipeline.specs.declared.answer.Plain.{Plain}
@@ -143,7 +143,7 @@ pub record IsUnknown (budget : ℕ) (q : PlainCondition) (classes : List PlainSl
   pub first : IsFirstOpen parts s
 
 -- what each verdict says
-abbrev pub IsRightVerdict : ℕ → PlainCondition → List PlainSlice → Told → List PlainPart → Type 0
+abbrev pub IsRightVerdict : ℕ → PlainCondition → List PlainSlice → Verdict → List PlainPart → Type 0
 IsRightVerdict budget q classes (Sat values) parts = IsSat budget q classes values parts
 IsRightVerdict budget q classes (UnsatAtom j) parts = IsUnsatAtom q j parts
 IsRightVerdict budget q classes (UnsatSlice s) parts = IsUnsatSlice budget q classes s parts

@@ -6,7 +6,7 @@ use Rattle.lin_model.specs.KeyAtom.{PlainKeyAtom}
 use Rattle.slicer.specs.Slices.{PlainSlice, AreClasses}
 use Rattle.canoniser.specs.Keys.{IsKeyOf}
 use Rattle.refutation.specs.SearchTree.{room}
-use Rattle.pipeline.specs.declared.answer.Told.TheVariants.{Unknown}
+use Rattle.pipeline.specs.declared.answer.Verdict.TheVariants.{Unknown}
 use Rattle.pipeline.specs.declared.answer.PlainPart.TheVariants.{Solved}
 use Rattle.pipeline.specs.declared.answer.Plain.{Plain}
 use Rattle.pipeline.specs.Answers.{IsRightAnswer}
@@ -26,7 +26,8 @@ HasRoomWithin budget q slice = (key : List PlainKeyAtom) → IsKeyOf q slice key
 
 -- the budget is at least the room of the key of each slice that was asked: the first slices, one for each part
 abbrev pub Suffices : ℕ → PlainCondition → Plain → Type 0
-Suffices budget q answer = (classes : List PlainSlice) → AreClasses q classes → All (HasRoomWithin budget q) (take (length answer.parts) classes)
+Suffices budget q answer = (classes : List PlainSlice) → AreClasses q classes
+    → All (HasRoomWithin budget q) (take (length answer.parts) classes)
 
 -- each slice that was asked was solved, and the query isn't unknown
 pub record IsDecided (answer : Plain) : Type 0 where
@@ -35,4 +36,5 @@ pub record IsDecided (answer : Plain) : Type 0 where
 
 -- a budget that suffices decides the query
 abbrev pub SufficientDecides : Type 0
-SufficientDecides = (budget : ℕ) (q : PlainCondition) (answer : Plain) → IsRightAnswer budget q answer → Suffices budget q answer → IsDecided answer
+SufficientDecides = (budget : ℕ) (q : PlainCondition) (answer : Plain) → IsRightAnswer budget q answer
+    → Suffices budget q answer → IsDecided answer

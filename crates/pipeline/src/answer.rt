@@ -6,9 +6,9 @@ use sqlite_items::Items;
 /// The verdict on a query. Atoms are numbered from 0, and so are the slices with variables: a slice without variables,
 /// which `slicer::slices` puts in front, has no number here.
 #[derive(Debug, Drop)]
-pub enum Told {
-    /// One value per variable, in order of declaration, that makes the query hold as written: those that the searches of
-    /// its slices came to.
+pub enum Verdict {
+    /// One value per variable, in order of declaration, that makes the query hold as written: those that the searches
+    /// of its slices came to.
     Sat(Items<i64>),
     /// The least atom that no integers satisfy.
     UnsatAtom(u32),
@@ -31,7 +31,7 @@ pub enum PlainPart {
 #[derive(Debug, Drop)]
 pub struct Plain {
     /// What is told of the query.
-    pub verdict: Told,
+    pub verdict: Verdict,
     /// What was done for each slice that was asked.
     pub parts: Items<PlainPart>,
 }

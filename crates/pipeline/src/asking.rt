@@ -3,7 +3,7 @@ ghost use Rattle.std.specs.Prelude.{◌≡◌, ◌≤◌, IfOk};
 ghost use Rattle.pipeline.specs.Keyed.{AreKeyed};
 ghost use Rattle.pipeline.specs.Answers.{IsRightAnswer};
 
-use crate::answer::{Plain, PlainPart, Told};
+use crate::answer::{Plain, PlainPart, Verdict};
 use crate::model::place;
 use crate::slice_keys::SliceKey;
 use crate::solving::{Reply, solve_key};
@@ -42,7 +42,7 @@ pub fn ask_all(
             Reply::Refuted => {
                 parts.push(PlainPart::Solved)?;
                 return Ok(Plain {
-                    verdict: Told::UnsatSlice(number),
+                    verdict: Verdict::UnsatSlice(number),
                     parts,
                 });
             }
@@ -54,12 +54,12 @@ pub fn ask_all(
     }
     if let Some(s) = open {
         return Ok(Plain {
-            verdict: Told::Unknown(s),
+            verdict: Verdict::Unknown(s),
             parts,
         });
     }
     Ok(Plain {
-        verdict: Told::Sat(Items::from_vec(values)),
+        verdict: Verdict::Sat(Items::from_vec(values)),
         parts,
     })
 }

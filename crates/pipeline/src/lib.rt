@@ -9,6 +9,6 @@ mod query;
 mod slice_keys;
 mod solving;
 
-pub use answer::{Plain, PlainPart, Told};
+pub use answer::{Plain, PlainPart, Verdict};
 pub use laws::{answers_exist, sufficient_budgets_decide};
 pub use query::answer_query;

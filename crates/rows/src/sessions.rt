@@ -4,7 +4,7 @@ use green_cli::Report;
 use lin_model::Condition;
 use lin_text::write_query;
 use outside::MemSink;
-use pipeline::{PlainPart, Told};
+use pipeline::{PlainPart, Verdict};
 use std::alloc::{AllocError, Global};
 use std::process::Abort;
 use std::test::Fail;
@@ -37,7 +37,7 @@ fn only_model(report: &Report) -> Option<(&Condition, &[i64])> {
     let answers = only(report.answers.as_slice())?;
     let answer = only(answers.as_slice())?;
     match (&answer.verdict, only(answer.parts.as_slice())?) {
-        (Told::Sat(values), PlainPart::Solved) => Some((query, values.as_slice())),
+        (Verdict::Sat(values), PlainPart::Solved) => Some((query, values.as_slice())),
         _ => None,
     }
 }

@@ -8,9 +8,7 @@ use outside::{Failed, Source};
 pub struct Zeros(pub usize);
 
 impl Source for Zeros {
-    ghost left = { λ _. None };
-
-    ghost faults = { λ _. 0 };
+    ghost state = { λ _. record { left = None; faults = 0 } };
 
     fn read(&mut self, buf: &mut [u8]) -> Result<usize, Failed> {
         let n = self.0.min(buf.len());
@@ -25,9 +23,7 @@ impl Source for Zeros {
 pub struct OneByOne<'a>(pub &'a [u8]);
 
 impl Source for OneByOne<'_> {
-    ghost left = { λ _. None };
-
-    ghost faults = { λ _. 0 };
+    ghost state = { λ _. record { left = None; faults = 0 } };
 
     fn read(&mut self, buf: &mut [u8]) -> Result<usize, Failed> {
         let n = self.0.len().min(buf.len()).min(1);

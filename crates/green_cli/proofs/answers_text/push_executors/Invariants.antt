@@ -6,5 +6,6 @@ use Rattle.green_cli.proofs.answers_text.push_executors.Given as goal
 abbrev pub invariant-loop-i : goal.invariant-loop-i
 invariant-loop-i l = record {
   counted : l.place + solved_in_all (drop l.i l.scripts) ≡ solved_in_all l.scripts;
-  text : l.out.items ++ executors_text l.place (drop l.i l.executors) (drop l.i l.scripts) ≡ l.fn.out.items ++ executors_text 0 l.executors l.scripts;
+  text : l.out.items ++ executors_text l.place (drop l.i l.executors)
+      (drop l.i l.scripts) ≡ l.fn.out.items ++ executors_text 0 l.executors l.scripts;
 }

@@ -5,8 +5,10 @@ use Rattle.green_cli.proofs.answers_text.push_parts.Goals as goal
 
 pub loop-part-preserved : goal.loop-part-preserved
 loop-part-preserved c =
-    let count = parts_count_step c.args.parts.now c.loop-part.part-index c.part-item.result c.loop-part-test.true c.part-item.is in
-    let step = parts_step c.args.parts.now c.loop-part.part-index c.loop-part.next c.part-item.result c.loop-part-test.true c.part-item.is in
+    let count = parts_count_step c.args.parts.now c.loop-part.part-index c.part-item.result c.loop-part-test.true
+    c.part-item.is in
+    let step = parts_step c.args.parts.now c.loop-part.part-index c.loop-part.next c.part-item.result
+    c.loop-part-test.true c.part-item.is in
     let next = c.in_ok-next.ensures.next in
     record {
       counted = omega (arith, count, next, c.loop-part.invariant.counted);
@@ -14,4 +16,5 @@ loop-part-preserved c =
     }
 
 pub returns-clause-text : goal.returns-clause-text
-returns-clause-text c = done _ _ _ c.loop-part.invariant.text (parts_end _ _ (drop_all c.loop-part.part-index c.args.parts.now c.loop-part-test.false))
+returns-clause-text c = done _ _ _ c.loop-part.invariant.text
+    (parts_end _ _ (drop_all c.loop-part.part-index c.args.parts.now c.loop-part-test.false))

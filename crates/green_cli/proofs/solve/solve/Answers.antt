@@ -1,9 +1,16 @@
-use Rattle.std.proofs.Common.{List, subst, sym}
-use Rattle.pipeline.specs.declared.answer.Plain.{Plain}
-use Rattle.green_cli.specs.AnswersText.{HaveAnswers}
-use Rattle.green_cli.proofs.FewLemmas.{have_answers}
+use Rattle.green_cli.proofs.CompleteLemmas.{solves_where_answered, solves_where_refused}
 use Rattle.green_cli.proofs.solve.solve.Goals as goal
 
-pub write_answers-requires-clause-shape : goal.write_answers-requires-clause-shape
-write_answers-requires-clause-shape g c =
-    subst (λ (answers : List (List Plain)). HaveAnswers c.in_ok-session.session answers) (sym c.as_slice-2.ensures) (have_answers c.args.budget c.in_ok-session.session c.in_ok-answers.answers c.in_ok-answers.ensures.right)
+pub returns-in-Ok : goal.returns-in-Ok
+returns-in-Ok g c =
+    solves_where_answered c.sufficient_budgets_decide.ensures c.args.budget _ c.in-Ok.answered.report
+    c.in-Ok.answered.text.items c.finish_answered.ensures.report c.in-Ok.ensures.input c.in-Ok.ensures.right
+    c.in-Ok.ensures.text c.finish_answered.ensures.ends
+    (record { disk = c.finish_answered.ensures.disk; other = c.finish_answered.ensures.other })
+    c.answer_source.ensures.bounded
+
+pub returns-in-Err : goal.returns-in-Err
+returns-in-Err g c =
+    solves_where_refused c.spelled_has_no_fault.ensures c.args.budget _ c.in-Err.fault c.in-Err.ensures.input
+    c.refuse.ensures.writes c.refuse.ensures.nothing
+    (record { disk = c.refuse.ensures.disk; other = c.refuse.ensures.other }) c.answer_source.ensures.bounded

@@ -6,8 +6,10 @@ use Rattle.green_cli.proofs.words.begins_with_solve.Goals as goal
 
 pub returns-in-Some : goal.returns-in-Some
 returns-in-Some c =
-    let first : slice_get (map (λ word. string_bytes word) c.args.words.now) 0 ≡ Some (string_bytes c.in-Some.word.now) =
-    slice_get-map (λ word. string_bytes word) c.args.words.now 0 ∙ ap (option_map (λ word. string_bytes word)) (sym c.in-Some.ensures.value) in (
+    let first : slice_get (map (λ word. string_bytes word) c.args.words.now) 0 ≡ Some
+    (string_bytes c.in-Some.word.now) =
+    slice_get-map (λ word. string_bytes word) c.args.words.now 0
+    ∙ ap (option_map (λ word. string_bytes word)) (sym c.in-Some.ensures.value) in (
       λ is. first ∙ ap Some (c.is_solve.ensures.0 is),
       λ is. let same : string_bytes c.in-Some.word.now ≡ codes "solve" = cc in c.is_solve.ensures.1 same,
     )

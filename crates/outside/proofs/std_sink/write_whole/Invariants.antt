@@ -4,4 +4,6 @@ use Rattle.outside.proofs.std_sink.write_whole.Given as goal
 
 -- what is gone from the rest has been appended
 abbrev pub invariant-loop : goal.invariant-loop
-invariant-loop g l = (done : List ℕ) × (l.initial.rest ≡ done ++ l.rest) × Appends (g.W.Write.contents l.initial.writer) (g.W.Write.contents l.writer) done
+invariant-loop g l =
+    (done : List ℕ) × (l.initial.rest ≡ done ++ l.rest)
+    × Appends (g.W.Write.contents l.initial.writer) (g.W.Write.contents l.writer) done
