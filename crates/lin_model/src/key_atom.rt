@@ -17,10 +17,10 @@ use std::marker::Model;
 /// The most variables of a key, which are numbered from 0.
 pub const MAX_KEY_VARS: u8 = 64;
 
-/// Each coefficient of a canonical atom is smaller in size.
+/// The coefficients of a canonical atom are smaller in size than this.
 pub const COEF_LIMIT: u64 = 1 << 40;
 
-/// The constant of a canonical atom is smaller in size.
+/// The constant of a canonical atom is smaller in size than this.
 pub const CONSTANT_LIMIT: u64 = 1 << 50;
 
 /// An atom `form op constant` in its canonical form: one to 64 terms with strictly ascending variables below 64,

@@ -52,7 +52,7 @@ fn spelled_plainly(alloc: Global, text: &[u8]) -> Result<(Vec<u8>, usize), Fail>
 }
 
 fn example_text(rt: &(impl Abort + AllocGlobal)) -> Result<Vec<u8>, Fail> {
-    let query = example(rt)?;
+    let query = copied_example(rt)?;
     let mut text = write_query(rt.alloc(), &query)?;
     push_more(&mut text)?;
     Ok(text)
@@ -77,6 +77,12 @@ a != c
 0 - 8 > -2*a
 b + b = 198
 x 18446744073709551615-9223372036854775808";
+
+/// A copy of the example.
+fn copied_example(rt: &(impl Abort + AllocGlobal)) -> Result<Condition, AllocError> {
+    let query = example(rt)?;
+    query.clone()
+}
 
 fn example(rt: &(impl Abort + AllocGlobal)) -> Result<Condition, AllocError> {
     let vars = example_vars(rt)?;
