@@ -11,7 +11,7 @@ use Rattle.green_cli.specs.Input.{Consumes, Drains, InputIsTooLong, ReadFailed, 
 use Rattle.green_cli.specs.Lines.{line_of}
 use Rattle.green_cli.specs.Solve.{IsSolved, Solves, solve_cause}
 use Rattle.green_cli.specs.StatusLaws.{GivesNoSession, GivesTooMuch, IsAnswered, SourceHolds, StatusesOfSolve}
-use Rattle.green_cli.specs.StatusLaws.{StatusesOfWords, TellsFault, text_of}
+use Rattle.green_cli.specs.StatusLaws.{StatusesOfWords, NamesFault, text_of}
 use Rattle.green_cli.specs.Statuses.{IsCutOff, IsRefused, Takes, Writes, has_unknown, run_status}
 use Rattle.green_cli.specs.Statuses.{status_of}
 use Rattle.green_cli.specs.Laws.{CommandsAreUnique}
@@ -105,14 +105,14 @@ module _ {D : Type 0} (budget : ℕ) (call : Call D) where
       go NoMemory cause number = omega (arith, ten, number)
       go TooLong cause number = omega (arith, ten, number)
 
-  text_fault : Solves budget call → call.status ≡ 11 → TellsFault call
+  text_fault : Solves budget call → call.status ≡ 11 → NamesFault call
   unfolding line_of
   text_fault solves eleven =
       ⊎_elim (λ solved. absurd (grind (arith, eleven, solved_answered solved)))
       (λ refused. go refused.fault refused.reason refused.writes.number refused.writes.line) solves.outcome
     where
       go : (fault : Fault) → solve_cause call fault → call.status ≡ status_of fault → Writes (line_of fault) call.sink
-          → TellsFault call
+          → NamesFault call
       go Usage cause number line = absurd cause
       go (OfText fault) cause number line = record { fault = fault; faulty = cause; line = line }
       go Read cause number line = absurd (omega (arith, eleven, number))

@@ -39,7 +39,7 @@ abbrev pub SourceHolds : {D : Type 0} → Call D → Type 0
 SourceHolds call = ¬ Rose call.source.before.faults call.source.after.faults
 
 -- a fault of the input's text, with its line
-pub record TellsFault {D : Type 0} (call : Call D) : Type 0 where
+pub record NamesFault {D : Type 0} (call : Call D) : Type 0 where
   pub fault : SessionFault
   pub faulty : InputIsFaulty call.source fault
   pub line : Writes (text_line fault) call.sink
@@ -58,7 +58,7 @@ pub record StatusesOfSolve {D : Type 0} (budget : ℕ) (call : Call D) : Type 0 
   pub cut_off : call.status ≡ 13 → IsCutOff (text_of call.report) call.sink
   -- 10, 11, 12 and 18; 11 and 18 come exactly there, but for want of memory
   pub usage : call.status ≢ 10
-  pub faulty : call.status ≡ 11 → TellsFault call
+  pub faulty : call.status ≡ 11 → NamesFault call
   pub is_faulty : GivesNoSession call.source.before → SourceHolds call → (call.status ≡ 11) ⊎ (call.status ≡ 16)
   pub read_failed : call.status ≡ 12 → ReadFailed call.source
   pub too_long : call.status ≡ 18 → InputIsTooLong call.source
