@@ -53,7 +53,8 @@ given_of budget q values (s ∷ classes) (k ∷ keys) are met =
       key = k.key;
       is_key = are.0.is_key;
       model =
-          subst (λ (order : List ℕ). IsModelOf budget k.key (point_of order values)) are.0.numbered (met 0 k (omega arith));
+          subst (λ (order : List ℕ). IsModelOf budget k.key (point_of order values)) are.0.numbered
+          (met 0 k (omega arith));
     })
     (given_of budget q values classes keys are.1 (λ i d lt. met (suc i) d (omega (arith, lt))))
 
