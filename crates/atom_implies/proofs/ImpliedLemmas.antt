@@ -8,5 +8,6 @@ use Rattle.atom_implies.specs.Facts.{HoldsWherever-implied}
 pub CoveredKeysHold-lem : CoveredKeysHold
 CoveredKeysHold-lem key query point covers holds k d within =
     let one = covers k d within in
-    let atom_holds : KeyAtomHolds one.1 point = subst (λ (a : PlainKeyAtom). KeyAtomHolds a point) one.3 (holds one.0 one.1 one.2) in
+    let atom_holds : KeyAtomHolds one.1 point = subst (λ (a : PlainKeyAtom). KeyAtomHolds a point) one.3
+    (holds one.0 one.1 one.2) in
     HoldsWherever-implied one.1 (get_or query k d) one.4 point atom_holds

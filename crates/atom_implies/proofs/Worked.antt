@@ -38,6 +38,9 @@ v0 op c = record { form = record { var = 0; coef = pos 1 } ∷ []; op = op; cons
 check_covers : Covers (v0 Eq (pos 4) ∷ []) (v0 Le (pos 5) ∷ v0 Ne (pos 7) ∷ [])
 check_covers =
     let IsImplied : PlainKeyAtom → Type 0 = λ b. Any (λ a. Implies a b) (v0 Eq (pos 4) ∷ []) in
-    let at_most : Implies (v0 Eq (pos 4)) (v0 Le (pos 5)) = record { same_form = refl; tests = (table_is_right Eq (pos 4) Le (pos 5)).0 refl } in
-    let differs : Implies (v0 Eq (pos 4)) (v0 Ne (pos 7)) = record { same_form = refl; tests = (table_is_right Eq (pos 4) Ne (pos 7)).0 refl } in
-    All-cons IsImplied (v0 Le (pos 5)) (v0 Ne (pos 7) ∷ []) (0, v0 Eq (pos 4), omega arith, refl, at_most) (All-cons IsImplied (v0 Ne (pos 7)) [] (0, v0 Eq (pos 4), omega arith, refl, differs) (All-nil IsImplied))
+    let at_most : Implies (v0 Eq (pos 4)) (v0 Le (pos 5)) = record
+    { same_form = refl; tests = (table_is_right Eq (pos 4) Le (pos 5)).0 refl } in
+    let differs : Implies (v0 Eq (pos 4)) (v0 Ne (pos 7)) = record
+    { same_form = refl; tests = (table_is_right Eq (pos 4) Ne (pos 7)).0 refl } in
+    All-cons IsImplied (v0 Le (pos 5)) (v0 Ne (pos 7) ∷ []) (0, v0 Eq (pos 4), omega arith, refl, at_most)
+    (All-cons IsImplied (v0 Ne (pos 7)) [] (0, v0 Eq (pos 4), omega arith, refl, differs) (All-nil IsImplied))

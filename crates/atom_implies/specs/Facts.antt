@@ -11,4 +11,5 @@ use Rattle.atom_implies.specs.Implies.{Implies, HoldsWherever}
 pub HoldsWherever-implied : (a b : PlainKeyAtom) → Implies a b → HoldsWherever a b
 HoldsWherever-implied a b implied point holds =
     let value = form_value a.form point in
-    subst (λ (form : List FormTerm). IsTrue (passes b.op b.constant (form_value form point))) implied.same_form (implied.tests value holds)
+    subst (λ (form : List FormTerm). IsTrue (passes b.op b.constant (form_value form point))) implied.same_form
+    (implied.tests value holds)

@@ -24,4 +24,5 @@ HoldsWherever a b = (point : List ℤ) → KeyAtomHolds a point → KeyAtomHolds
 
 -- every point at which a key holds is one at which each key that it covers does
 abbrev pub CoveredKeysHold : Type 0
-CoveredKeysHold = (key query : List PlainKeyAtom) (point : List ℤ) → Covers key query → KeyHolds key point → KeyHolds query point
+CoveredKeysHold = (key query : List PlainKeyAtom) (point : List ℤ) → Covers key query → KeyHolds key point
+    → KeyHolds query point

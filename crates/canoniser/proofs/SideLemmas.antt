@@ -14,7 +14,7 @@ use Rattle.lin_model.specs.Form.{form_value}
 use Rattle.lin_model.specs.declared.atom.Atom.{Atom}
 use Rattle.lin_model.specs.declared.form.FormTerm.{FormTerm}
 use Rattle.lin_model.specs.Lists.{Contains-first, Contains-later, Contains-cases}
-use Rattle.lin_model.specs.Integers.{distrib_right}
+use Rattle.lin_model.specs.Integers.{distrib_right, only_at, only_at-other, only_at-same}
 use Rattle.slicer.specs.Names.{side_vars, Names}
 use Rattle.canoniser.specs.Gathered.{is_on, factor_on, constants_of, coefficient, constant}
 use Rattle.canoniser.specs.Forms.{terms_from}
@@ -63,28 +63,19 @@ weighted-minus f g (v ∷ vs) values =
     omega (arith, ints, minus_times (f v) (g v) (value_at values v), weighted-minus f g vs values)
 
 -- the factor of one variable alone
-abbrev one : ℕ → ℤ → ℕ → ℤ
-one w n v = if w == v then n else pos 0
-
-one-other : (w : ℕ) (n : ℤ) (v : ℕ) → w ≢ v → one w n v ≡ pos 0
-one-other w n v h = grind (arith, nat_tests)
-
-one-same : (w : ℕ) (n : ℤ) (v : ℕ) → w ≡ v → one w n v ≡ n
-one-same w n v h = grind (arith, nat_tests)
-
 weighted-one : (w : ℕ) (n : ℤ) (vs : List ℕ) (values : List ℤ) → AllPairs ◌≢◌ vs → Contains vs w
-    → weighted (one w n) vs values ≡ n *ℤ value_at values w
+    → weighted (only_at w n) vs values ≡ n *ℤ value_at values w
 weighted-one w n [] values distinct has = absurd (omega (arith, has.1))
 weighted-one w n (v ∷ vs) values distinct has =
     elim (Contains-cases v vs w has) [
       | inl same ↦
-          let none = weighted-zero (one w n) vs values
-          (λ u there. one-other w n u
+          let none = weighted-zero (only_at w n) vs values
+          (λ u there. only_at-other w n u
           (λ e. distinct-head v vs distinct (subst (Contains vs) (sym e ∙ sym same) there))) in
           omega (
             arith,
             ints,
-            ap (λ (x : ℤ). x *ℤ value_at values v) (one-same w n v (sym same)),
+            ap (λ (x : ℤ). x *ℤ value_at values v) (only_at-same w n v (sym same)),
             ap (λ (u : ℕ). n *ℤ value_at values u) same,
             none,
           )
@@ -93,7 +84,7 @@ weighted-one w n (v ∷ vs) values distinct has =
           omega (
             arith,
             ints,
-            zero_times (one w n v) (value_at values v) (one-other w n v other),
+            zero_times (only_at w n v) (value_at values v) (only_at-other w n v other),
             weighted-one w n vs values (distinct-tail v vs distinct) behind,
           )
     ]

@@ -28,7 +28,8 @@ fn first_is_false(alloc: Global, c: &Condition) -> Result<bool, Fail> {
     Ok(is_false(alloc, atom)?)
 }
 
-/// Equations whose divisor divides and doesn't, what always holds, what cancels, and a bound beyond that of the variable.
+/// Equations whose divisor divides and doesn't, what always holds, what cancels, and a bound beyond that of the
+/// variable.
 const ATOMS: &str = "false:2*A = 7;
 some:2*A = 8;
 false:4*A - 6*B = 9;

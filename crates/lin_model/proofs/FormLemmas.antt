@@ -1,5 +1,6 @@
 -- The greatest common divisor of a form's coefficients, its width and its value, one term after another.
-use Rattle.std.proofs.Common.{◌≤◌, ◌≡◌, ℕ, suc, ◌+◌, ◌<◌, max, ℤ, ◌+ℤ◌, ◌*ℤ◌, List, [], ◌∷◌, length, take, drop, get_or, unsigned_abs, ap, arith}
+use Rattle.std.proofs.Common.{◌≤◌, ◌≡◌, ℕ, suc, ◌+◌, ◌<◌, max, ℤ, ◌+ℤ◌, ◌*ℤ◌, List, [], ◌∷◌, length, take, drop, get_or}
+use Rattle.std.proofs.Common.{unsigned_abs, ap, arith}
 use Rattle.std.specs.Int.{IsGcd, ◌∣◌}
 use Rattle.std.specs.List.{All}
 use Rattle.std.proofs.lemmas.Nat.Gcd.{dvd_trans}
@@ -16,22 +17,29 @@ DividesAll-fewer form i e all = λ k x lt.
     let in_more : k < length (take (i + 1) form) = omega (arith, length-take i form, length-take (i + 1) form) in
     rw (get_or-take i form k x low, ← get_or-take (i + 1) form k x (omega arith)) (all k x in_more)
 
-DividesAll-last : (form : List FormTerm) (i : ℕ) (d : FormTerm) (e : ℕ) → i < length form → DividesAll e (take (i + 1) form) → e ∣ unsigned_abs (get_or form i d).coef
+DividesAll-last : (form : List FormTerm) (i : ℕ) (d : FormTerm) (e : ℕ) → i < length form
+    → DividesAll e (take (i + 1) form) → e ∣ unsigned_abs (get_or form i d).coef
 DividesAll-last form i d e lt all =
     rw (← get_or-take (i + 1) form i d (omega arith)) (all i d (omega (arith, length-take (i + 1) form)))
 
 -- a common divisor is that of the terms so far and of the next
-pub IsGcdOf-more : (form : List FormTerm) (i : ℕ) (d : FormTerm) (g h : ℕ) → i < length form → IsGcdOf (take i form) g → IsGcd g (unsigned_abs (get_or form i d).coef) h → IsGcdOf (take (i + 1) form) h
+pub IsGcdOf-more : (form : List FormTerm) (i : ℕ) (d : FormTerm) (g h : ℕ) → i < length form → IsGcdOf (take i form) g
+    → IsGcd g (unsigned_abs (get_or form i d).coef) h → IsGcdOf (take (i + 1) form) h
 IsGcdOf-more form i d g h lt before two = record {
-  divides = All-more (λ t. h ∣ unsigned_abs t.coef) form i d lt (All-weaker (λ t. g ∣ unsigned_abs t.coef) (λ t. h ∣ unsigned_abs t.coef) (λ t. dvd_trans h two.0) (take i form) before.divides) two.1;
+  divides = All-more (λ t. h ∣ unsigned_abs t.coef) form i d lt
+      (All-weaker (λ t. g ∣ unsigned_abs t.coef) (λ t. h ∣ unsigned_abs t.coef) (λ t. dvd_trans h two.0) (take i form)
+      before.divides) two.1;
   greatest = λ e all. two.2 e (before.greatest e (DividesAll-fewer form i e all)) (DividesAll-last form i d e lt all);
 }
 
 -- one more term of the width and of the value, from the front
-pub form_width-rest : (form : List FormTerm) (i : ℕ) (d : FormTerm) → i < length form → form_width (drop i form) ≡ max (suc (get_or form i d).var) (form_width (drop (i + 1) form))
+pub form_width-rest : (form : List FormTerm) (i : ℕ) (d : FormTerm) → i < length form → form_width (drop i form)
+    ≡ max (suc (get_or form i d).var) (form_width (drop (i + 1) form))
 form_width-rest form i d lt = ap form_width (drop_more form i d lt)
 
-pub form_value-rest : (form : List FormTerm) (point : List ℤ) (i : ℕ) (d : FormTerm) → i < length form → form_value (drop i form) point ≡ ((get_or form i d).coef *ℤ value_at point (get_or form i d).var) +ℤ form_value (drop (i + 1) form) point
+pub form_value-rest : (form : List FormTerm) (point : List ℤ) (i : ℕ) (d : FormTerm) → i < length form
+    → form_value (drop i form) point ≡ ((get_or form i d).coef *ℤ value_at point (get_or form i d).var) +ℤ form_value
+    (drop (i + 1) form) point
 form_value-rest form point i d lt = ap (λ f. form_value f point) (drop_more form i d lt)
 
 -- each variable is below the width

@@ -1,10 +1,11 @@
 -- Laws of products of integers, that a factor keeps the order or turns it, and what tests of order say. They say
 -- nothing of this crate: the proofs of crates above use them.
 use Rattle.std.proofs.Common.{◌≡◌, ℕ, suc, ◌*◌, ℤ, pos, negsuc, ◌+ℤ◌, ◌*ℤ◌, ◌≤ℤ◌, arith, ap}
-use Rattle.std.specs.Prelude.{◌<ℤ◌, int_le, int_lt}
+use Rattle.std.specs.Prelude.{◌≢◌, ◌<ℤ◌, ◌==◌, int_le, int_lt, if◌then◌else◌}
 use Rattle.std.specs.Bool.{Decides}
 use Rattle.std.proofs.Math.Nat.{mul-le-mul_left}
 use Rattle.std.proofs.lemmas.Int.{ints}
+use Rattle.std.proofs.lemmas.Bool.Decides.{nat_tests}
 use borrow.Author.Differences.{up, down, sum_is_lem, product_is, le_out}
 
 -- a sum times a factor
@@ -47,3 +48,13 @@ Decides-int_le a b = (λ so. grind (arith, ints), λ le. grind (arith, ints))
 
 pub Decides-int_lt : (a b : ℤ) → Decides (int_lt a b) (a <ℤ b)
 Decides-int_lt a b = (λ so. grind (arith, ints), λ lt. grind (arith, ints))
+
+-- this integer at one place, and 0 at every other
+abbrev pub only_at : ℕ → ℤ → ℕ → ℤ
+only_at w n v = if w == v then n else pos 0
+
+pub only_at-other : (w : ℕ) (n : ℤ) (v : ℕ) → w ≢ v → only_at w n v ≡ pos 0
+only_at-other w n v h = grind (arith, nat_tests)
+
+pub only_at-same : (w : ℕ) (n : ℤ) (v : ℕ) → w ≡ v → only_at w n v ≡ n
+only_at-same w n v h = grind (arith, nat_tests)

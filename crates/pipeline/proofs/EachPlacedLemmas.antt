@@ -12,8 +12,10 @@ pub record PlacedBelow (values : List ℤ) (back : List ℕ) (point : List ℤ) 
   pub placed : (v : ℕ) → v < n → value_at new (get_or back v 0) ≡ value_at point v
   pub others : (w : ℕ) → (Contains back w → ⊥) → value_at new w ≡ value_at values w
 
-pub place_below : (values : List ℤ) (back : List ℕ) (point : List ℤ) → AllPairs ◌≢◌ back → All (λ v. v < length values) back → (n : ℕ) → n ≤ length back → PlacedBelow values back point n
-place_below values back point distinct within zero few = record { new = values; long = refl; placed = λ v lt. absurd (omega arith); others = λ w absent. refl }
+pub place_below : (values : List ℤ) (back : List ℕ) (point : List ℤ) → AllPairs ◌≢◌ back
+    → All (λ v. v < length values) back → (n : ℕ) → n ≤ length back → PlacedBelow values back point n
+place_below values back point distinct within zero few = record
+    { new = values; long = refl; placed = λ v lt. absurd (omega arith); others = λ w absent. refl }
 place_below values back point distinct within (suc n) few =
     let before = place_below values back point distinct within n (omega arith) in
     let place = get_or back n 0 in
@@ -22,5 +24,6 @@ place_below values back point distinct within (suc n) few =
       new = set before.new place (value_at point n);
       long = length-set before.new place (value_at point n) ∙ before.long;
       placed = λ v lt. placed_more before.new back point n distinct (omega arith) fits before.placed v (omega arith);
-      others = λ w absent. others_stay before.new back n w (value_at point n) (omega arith) absent ∙ before.others w absent;
+      others = λ w absent. others_stay before.new back n w (value_at point n) (omega arith) absent
+          ∙ before.others w absent;
     }

@@ -18,7 +18,8 @@ KeyLeaves budget values k Solved = IsMet budget values k
 KeyLeaves budget values k (Open tree) = IsSpentOn budget k.key tree
 
 -- these slices were asked, with these parts, the first that was left open, and values that meet each that was solved
-pub record IsAsked (budget : ℕ) (q : PlainCondition) (asked : List SliceKey) (parts : List PlainPart) (least : Option ℕ) (values : List ℤ) : Type 0 where
+pub record IsAsked (budget : ℕ) (q : PlainCondition) (asked : List SliceKey) (parts : List PlainPart) (least : Option ℕ)
+    (values : List ℤ) : Type 0 where
   pub leaves : AllZip (KeyLeaves budget values) asked parts
   pub first : MatchOption least (All (λ part. part ≡ Solved) parts) (IsFirstOpen parts)
   pub long : length values ≡ length q.vars

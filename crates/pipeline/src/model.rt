@@ -9,7 +9,8 @@ pub fn place(values: &mut [i64], back: &Back, point: &[i64])
     requires within { All (λ v. v < length values.old) back.now }
     requires one_each { length point.now ≡ length back.now }
     ensures length { length values.new ≡ length values.old }
-    ensures placed { (v : ℕ) → v < length back.now → value_at values.new (slice_index back.now v) ≡ value_at point.now v }
+    ensures placed { (v : ℕ) → v < length back.now → value_at values.new (slice_index back.now v)
+        ≡ value_at point.now v }
     ensures others { (w : ℕ) → (Contains back.now w → ⊥) → value_at values.new w ≡ value_at values.old w }
 {
     for v in 0..back.width() {

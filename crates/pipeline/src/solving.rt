@@ -56,7 +56,8 @@ fn reply_of(
 ) -> Result<Reply, NoMemory>
     requires nodes { nodes ≤ length region.now.nodes }
     requires terms { terms ≤ length region.now.terms }
-    ensures { IfOk result (λ reply. reply ≡ reply_to found (drop nodes region.now.nodes) (drop terms region.now.terms)) }
+    ensures { IfOk result
+        (λ reply. reply ≡ reply_to found (drop nodes region.now.nodes) (drop terms region.now.terms)) }
 {
     Ok(match found {
         Found::Model(point) => Reply::Model(point),

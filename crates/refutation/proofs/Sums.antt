@@ -9,6 +9,7 @@ use Rattle.std.proofs.lemmas.List.Elements.{All-head, All-tail}
 use Rattle.lin_model.specs.declared.form.FormTerm.{FormTerm}
 use Rattle.lin_model.specs.Form.{value_at, form_value}
 use Rattle.lin_model.specs.Integers.{distrib_right, distrib_left, times_assoc, scale_up, scale_down}
+use Rattle.lin_model.specs.Integers.{only_at, only_at-other, only_at-same}
 use Rattle.refutation.specs.Bounds.{PlainBounds, lower_of, upper_of, variables, add_known, scaled_side, least, greatest}
 use Rattle.refutation.specs.Bounds.{IsWithin}
 use Rattle.refutation.specs.Leaf.{coefficient_of, Multiple, summed_coefficient, summed_form}
@@ -96,42 +97,33 @@ form_of-zero [] point = refl
 form_of-zero (v ∷ vs) point = omega (arith, ints, form_of-zero vs point)
 
 -- one coefficient alone: nothing at other variables, and its term where the variable is in the range
-abbrev one : ℕ → ℤ → ℕ → ℤ
-one w k v = cond (eqb w v) k (pos 0)
-
-one-other : (w : ℕ) (k : ℤ) (v : ℕ) → w ≢ v → one w k v ≡ pos 0
-one-other w k v h = grind (arith, nat_tests)
-
-one-same : (w : ℕ) (k : ℤ) (v : ℕ) → w ≡ v → one w k v ≡ k
-one-same w k v h = grind (arith, nat_tests)
-
 form_of-before : (w : ℕ) (k : ℤ) (a n : ℕ) (point : List ℤ) → w < a
-    → form_value (form_of (one w k) (range_with_len a n)) point ≡ pos 0
+    → form_value (form_of (only_at w k) (range_with_len a n)) point ≡ pos 0
 form_of-before w k a zero point h = refl
 form_of-before w k a (suc n) point h =
     omega (
       arith,
       ints,
-      ap (λ (c : ℤ). c *ℤ value_at point a) (one-other w k a (omega arith)),
+      ap (λ (c : ℤ). c *ℤ value_at point a) (only_at-other w k a (omega arith)),
       form_of-before w k
           (a + 1) n point (omega arith),
     )
 
 form_of-one : (w : ℕ) (k : ℤ) (a n : ℕ) (point : List ℤ) → a ≤ w → w < a + n
-    → form_value (form_of (one w k) (range_with_len a n)) point ≡ k *ℤ value_at point w
+    → form_value (form_of (only_at w k) (range_with_len a n)) point ≡ k *ℤ value_at point w
 form_of-one w k a zero point low high = absurd (omega arith)
 form_of-one w k a (suc n) point low high =
     ⊎_elim (λ lt. omega (
       arith,
       ints,
-      ap (λ (c : ℤ). c *ℤ value_at point a) (one-other w k a (omega arith)),
+      ap (λ (c : ℤ). c *ℤ value_at point a) (only_at-other w k a (omega arith)),
       form_of-one
           w k (a + 1) n point (omega arith) (omega arith),
     )) (λ ge. let same : w ≡ a = omega arith in
     omega (
       arith,
       ints,
-      ap (λ (c : ℤ). c *ℤ value_at point a) (one-same w k a same),
+      ap (λ (c : ℤ). c *ℤ value_at point a) (only_at-same w k a same),
       ap (λ (v : ℕ). k *ℤ value_at point v) same,
       form_of-before w k (a + 1) n point (omega arith),
     )) (cases_lt a w)
@@ -144,7 +136,7 @@ form_of-gathered (t ∷ ts) n point narrow =
     omega (
       arith,
       ints,
-      form_of-added (one t.var t.coef) (coefficient_of ts) (range_with_len 0 n) point,
+      form_of-added (only_at t.var t.coef) (coefficient_of ts) (range_with_len 0 n) point,
       form_of-one
           t.var t.coef 0 n point (omega arith) (omega (arith, All-head (λ u. u.var < n) t ts narrow)),
       form_of-gathered ts n

@@ -1,6 +1,5 @@
 -- What follows from the list of all variables, the definition of an empty box and a walk with a first box: for the
--- proofs
--- of the crates above.
+-- proofs of the crates above.
 use Rattle.std.proofs.Common.{◌≡◌, ℕ, ℤ, pos, Option, Some, None, is_some, ◌<◌, ◌∙◌, List, [], ◌∷◌, true, false, length}
 use Rattle.std.proofs.Common.{get_or, refl, subst, arith}
 use Rattle.std.specs.Option.{unwrap_or}

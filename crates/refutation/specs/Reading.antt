@@ -70,8 +70,7 @@ behind node box r =
 
 -- the nodes are read in order, each treating the first undecided box, up to the first that finds no box or may not
 -- stand there. Say that `Split, Empty` is read over one box, and that its lower half is empty: the split is met with
--- the
--- box, Empty with the lower half, no node is the rest, and the upper half is left
+-- the box, Empty with the lower half, no node is the rest, and the upper half is left
 unfoldable pub read_over : Bool → List PlainKeyAtom → List Node → List LeafTerm → List PlainBox → TreeReading
 read_over may_leave key [] terms boxes = nothing_read [] terms boxes
 read_over may_leave key (node ∷ nodes) terms [] = nothing_read (node ∷ nodes) terms []

@@ -113,8 +113,7 @@ pub record IsSearchTreeBy (rule : Rule) (key : List PlainKeyAtom) (nodes : List 
     pub in_order : All (KeepsOrderBy rule key) (search_reading key nodes terms).met
 
 -- a search tree with just this many inner nodes, all before its first Left, that decides every box; the box at its
--- first
--- Left is one that has to be split
+-- first Left is one that has to be split
 pub record IsOpenTreeBy (rule : Rule) (key : List PlainKeyAtom) (splits : ℕ) (nodes : List Node)
     (terms : List LeafTerm) : Type 0 where
   pub search : IsSearchTreeBy rule key nodes terms

@@ -1,6 +1,5 @@
 //! What closes a box at a glance: one atom, or the sum of two. A side counts like an atom. In a row of both the atoms
-//! of
-//! the key come first.
+//! of the key come first.
 
 ghost use Rattle.std.specs.Prelude.{◌≡◌, ◌↔◌, ◌<◌, IsTrue, length};
 ghost use Rattle.refutation.specs.Glance.{SomeBelow, place_count, term_at, closes_alone, close_together, closes_with};

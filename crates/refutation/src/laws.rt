@@ -4,8 +4,7 @@ ghost use Rattle.refutation.specs.Laws.{CutsLeaveProperHalves, KeyBoundsAreShort
 ghost use Rattle.refutation.specs.Laws.{ClosedByAtomsOfTheKey};
 
 /// Each tree refutes the key, fails at one node, ends early or goes on, and just one of these: so each has one answer
-/// of
-/// `refutes` that is right.
+/// of `refutes` that is right.
 pub fn each_tree_has_one_answer()
     ensures { EachTreeHasOneAnswer }
 {}
@@ -26,8 +25,7 @@ pub fn open_trees_are_below_room()
 {}
 
 /// Where a cut lies between the sides of a variable, the halves aren't empty, have all sides and have none beyond 2^32
-/// in
-/// size, wherever the whole is so; then the cut isn't beyond 2^32 either.
+/// in size, wherever the whole is so; then the cut isn't beyond 2^32 either.
 pub fn cuts_leave_proper_halves()
     ensures { CutsLeaveProperHalves }
 {}

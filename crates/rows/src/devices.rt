@@ -51,8 +51,8 @@ fn a_failing_read_is_a_fault_and_a_failing_write_leaves_a_front(
     expect_failing(&rt, ("serve", SESSION), (9, 0), (10, "fault "))
 }
 
-/// Runs the command line over the text, where the source and the sink fail at one call each, and expects this status and
-/// this text in the sink.
+/// Runs the command line over the text, where the source and the sink fail at one call each, and expects this status
+/// and this text in the sink.
 fn expect_failing(
     rt: &(impl Abort + AllocGlobal),
     (line, text): (&str, &str),
