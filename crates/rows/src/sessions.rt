@@ -59,38 +59,48 @@ y - x <= -1
 
 #[test]
 fn queries_are_answered_within_their_budget(rt: HostRuntime) -> Result<(), Fail> {
-    for (line, lines, status, answer) in [
-        ("solve|--budget|1", WIDE, 3, "unknown slice 1 [spent]"),
-        (
-            "solve|--budget|4",
-            "var x 0 1\nvar y 0 1\nx - y <= -1\ny - x <= -1\n",
-            0,
-            "unsat slice 1 [new 0]",
-        ),
-        (
-            "solve|--budget|8",
-            "var x 0 1\nvar y 0 1\nx = y\nx != 0\n",
-            0,
-            "sat x=1 y=1 [new 0]",
-        ),
-    ] {
-        expect_query(&rt, line, lines, (status, answer))?;
-    }
-    Ok(())
+    let crossed = "var x 0 1\nvar y 0 1\nx - y <= -1\ny - x <= -1\n";
+    expect_query(
+        &rt,
+        "solve|--budget|1",
+        WIDE,
+        (3, "unknown slice 1 [spent]"),
+    )?;
+    expect_query(
+        &rt,
+        "solve|--budget|4",
+        crossed,
+        (0, "unsat slice 1 [new 0]"),
+    )?;
+    let equal = "var x 0 1\nvar y 0 1\nx = y\nx != 0\n";
+    expect_query(&rt, "solve|--budget|8", equal, (0, "sat x=1 y=1 [new 0]"))
 }
 
 /// Each place is the number of parts that were solved before in the whole session.
 #[test]
 fn executors_and_queries_are_answered_in_order(rt: HostRuntime) -> Result<(), Fail> {
-    for (text, answers) in [
-        ("green 1\nend\n", "green answers 1\nend\n"),
-        ("green 1\nexecutor\nend", "green answers 1\nexecutor\nend\n"),
-        (
-            "green 1\nexecutor\nquery\nvar x 3 3\nend\n",
-            "green answers 1\nexecutor\nsat x=3 [new 0]\nend\n",
-        ),
-        (
-            "green 1
+    expect_in_turn(&rt, "green 1\nend\n", "green answers 1\nend\n")?;
+    expect_in_turn(
+        &rt,
+        "green 1\nexecutor\nend",
+        "green answers 1\nexecutor\nend\n",
+    )?;
+    expect_in_turn(
+        &rt,
+        ONE_QUERY,
+        "green answers 1\nexecutor\nsat x=3 [new 0]\nend\n",
+    )?;
+    expect_in_turn(&rt, TWO_QUERIES, TWO_ANSWERS)?;
+    expect_in_turn(&rt, FREE_SPELLING, FREE_ANSWERS)
+}
+
+fn expect_in_turn(rt: &(impl Abort + AllocGlobal), text: &str, answers: &str) -> Result<(), Fail> {
+    expect_text(rt, "solve", text, (0, answers))
+}
+
+const ONE_QUERY: &str = "green 1\nexecutor\nquery\nvar x 3 3\nend\n";
+
+const TWO_QUERIES: &str = "green 1
 executor
 query
 var x 0 9
@@ -101,11 +111,16 @@ var x 0 9
 var y 0 9
 19 <= x + y
 end
-",
-            "green answers 1\nexecutor\nsat x=9 y=9 [new 0]\nunsat slice 1 [new 1]\nend\n",
-        ),
-        (
-            "# free spelling
+";
+
+const TWO_ANSWERS: &str = "green answers 1
+executor
+sat x=9 y=9 [new 0]
+unsat slice 1 [new 1]
+end
+";
+
+const FREE_SPELLING: &str = "# free spelling
 \t
   green\t1 \r
 executor
@@ -121,14 +136,16 @@ var x1 1 1
 x1 >= 1
 var b 2 2
 end
- # nothing more",
-            "green answers 1\nexecutor\nsat x=3 [new 0]\nexecutor\nexecutor\nsat x1=1 b=2 [new 1] [new 2]\nend\n",
-        ),
-    ] {
-        expect_text(&rt, "solve", text, (0, answers))?;
-    }
-    Ok(())
-}
+ # nothing more";
+
+const FREE_ANSWERS: &str = "green answers 1
+executor
+sat x=3 [new 0]
+executor
+executor
+sat x1=1 b=2 [new 1] [new 2]
+end
+";
 
 /// A part that was left open has no place.
 #[test]

@@ -97,18 +97,13 @@ fn expect_counted(
 #[test]
 fn words_are_counted_wherever_they_stand(rt: HostRuntime) -> Result<(), Fail> {
     let inside = "query\nvar x 0 9\nx <= executor\nend\n";
-    for (counts, rest, want) in [
-        ((65, 0), "end\n", "66 1 TooManyExecutors"),
-        ((64, 0), inside, "68 6 TooManyExecutors"),
-        ((63, 0), inside, "67 6 Syntax"),
-        ((64, 0), "end executor\n", "66 5 TooManyExecutors"),
-        ((63, 0), "executor executor\n", "65 10 TooManyExecutors"),
-        ((1, 100_001), "end\n", "100003 1 TooManyQueries"),
-        ((1, 99_999), "query query\n", "100002 7 TooManyQueries"),
-    ] {
-        expect_counted(&rt, counts, rest, want)?;
-    }
-    Ok(())
+    expect_counted(&rt, (65, 0), "end\n", "66 1 TooManyExecutors")?;
+    expect_counted(&rt, (64, 0), inside, "68 6 TooManyExecutors")?;
+    expect_counted(&rt, (63, 0), inside, "67 6 Syntax")?;
+    expect_counted(&rt, (64, 0), "end executor\n", "66 5 TooManyExecutors")?;
+    expect_counted(&rt, (63, 0), "executor executor\n", "65 10 TooManyExecutors")?;
+    expect_counted(&rt, (1, 100_001), "end\n", "100003 1 TooManyQueries")?;
+    expect_counted(&rt, (1, 99_999), "query query\n", "100002 7 TooManyQueries")
 }
 
 #[test]
