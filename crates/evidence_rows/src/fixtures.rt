@@ -7,6 +7,12 @@ use std::test::Fail;
 /// `v0 - v1`
 pub const DIFFERENCE: [FormTerm; 2] = [FormTerm { var: 0, coef: 1 }, FormTerm { var: 1, coef: -1 }];
 
+/// `v0 + v1`
+pub const SUM: [FormTerm; 2] = [FormTerm { var: 0, coef: 1 }, FormTerm { var: 1, coef: 1 }];
+
+/// `v0`
+pub const VARIABLE: [FormTerm; 1] = [FormTerm { var: 0, coef: 1 }];
+
 /// The atom of these parts, which are canonical.
 pub fn atom(alloc: Global, terms: &[FormTerm], op: Op, constant: i64) -> Result<KeyAtom, Fail> {
     let form = Form::new(terms.to_vec(alloc)?);

@@ -2,8 +2,12 @@
 #![tactic(auto)]
 
 #[cfg(test)]
+mod entries;
+#[cfg(test)]
 mod fixtures;
 #[cfg(test)]
 mod searches;
 #[cfg(test)]
 mod trees;
+#[cfg(test)]
+mod versions;

@@ -1,0 +1,9 @@
+mod CheckLemmas
+mod CoverLemmas
+mod EventLemmas
+mod FlightLemmas
+mod LogLemmas
+mod RunLemmas
+mod SettleLemmas
+mod StandingLemmas
+mod Worked

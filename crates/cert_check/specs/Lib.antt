@@ -1,0 +1,12 @@
+pub mod Entries
+pub mod Decides
+pub mod Refusals
+pub mod Machine
+pub mod Logs
+pub mod Replies
+pub mod Seats
+pub mod Calls
+pub mod Asks
+pub mod Runs
+pub mod Laws
+pub mod Facts

@@ -1,0 +1,90 @@
+//! Frozen lists of entries that grow one by one.
+ghost use Rattle.std.specs.Prelude.{◌≡◌, ◌<◌};
+
+use crate::fixtures::{VARIABLE, atom, key_of};
+use atom_implies::Steps;
+use cert_check::{Entry, Shared, check_sat};
+use layers::Version;
+use lin_model::{Key, Op, Point};
+use std::alloc::Global;
+use std::marker::Brand;
+use std::process::Abort;
+use std::sync::ledger::{Blank, Ledger};
+use std::test::Fail;
+
+/// `v0 <= most` and `v0 >= least`.
+fn between(alloc: Global, most: i64, least: i64) -> Result<Key, Fail> {
+    let mut atoms = Vec::new(alloc);
+    atoms.push(atom(alloc, &VARIABLE, Op::Le, most)?)?;
+    atoms.push(atom(alloc, &VARIABLE, Op::Ge, least)?)?;
+    key_of(atoms)
+}
+
+/// The entry of `v0 <= value` and `v0 >= value`.
+fn entry(alloc: Global, value: i64) -> Result<Shared<Entry>, Fail> {
+    let key = between(alloc, value, value)?;
+    let mut values = Vec::new(alloc);
+    values.push(value)?;
+    let Ok(point) = Point::of(values) else {
+        return Err(Fail::from("a point"));
+    };
+    if point.values().len() != usize::from(key.width()) {
+        return Err(Fail::from("a value for each variable"));
+    }
+    match check_sat(key, point) {
+        Ok(entry) => Ok(Shared::new(alloc, entry)?),
+        Err(_) => Err(Fail::from("an entry")),
+    }
+}
+
+/// The version to which entries with the values 0 to 5 were added.
+fn six(alloc: Global) -> Result<Version, Fail> {
+    let mut version = Version::of(alloc, Vec::new(alloc))?;
+    for value in 0..6 {
+        if version.len() > 5 {
+            return Err(Fail::from("at most five before"));
+        }
+        version = version.add(alloc, entry(alloc, value)?)?;
+    }
+    Ok(version)
+}
+
+#[test]
+fn six_entries_stand_in_few_layers(rt: HostRuntime) -> Result<(), Fail> {
+    let version = six(rt.alloc())?;
+    assert_eq!(rt; version.len(), 6);
+    assert!(rt; version.layer_count() <= 3);
+    try_first::<Brand>(&rt, &version, Blank::new(1))
+}
+
+/// Of the entries with the values 3, 4 and 5 the first decides `v0 <= 9` and `v0 >= 3`.
+fn try_first<L: Ledger>(
+    rt: &(impl Abort + AllocGlobal),
+    version: &Version,
+    blank: Blank,
+) -> Result<(), Fail>
+    requires name { blank.name ≡ L.name }
+    requires parts { blank.parts ≡ L.parts }
+    requires some { 0 < blank.parts }
+{
+    let mut steps: Steps<L> = Steps::new(blank);
+    let key = between(rt.alloc(), 9, 3)?;
+    assert_eq!(rt; version.first(&key, &mut steps), Some(3));
+    assert_eq!(rt; version.first_from(4, &key, &mut steps), Some(4));
+    assert_eq!(rt; version.first_from(6, &key, &mut steps), None);
+    let none = between(rt.alloc(), 9, 7)?;
+    assert_eq!(rt; version.first(&none, &mut steps), None);
+    Ok(())
+}
+
+/// A version that somebody holds stays as it is when another grows out of it.
+#[test]
+fn older_versions_stay(rt: HostRuntime) -> Result<(), Fail> {
+    let first = Version::of(rt.alloc(), Vec::new(rt.alloc()))?;
+    if first.len() > 0 {
+        return Err(Fail::from("no entry"));
+    }
+    let second = first.add(rt.alloc(), entry(rt.alloc(), 7)?)?;
+    assert_eq!(rt; (first.len(), second.len()), (0, 1));
+    Ok(())
+}

@@ -1,0 +1,22 @@
+-- Layers that are few: each is at least twice as long as the next.
+use Rattle.std.specs.Prelude.{◌≡◌, ℕ, ◌+◌, ◌*◌, ◌^◌, ◌<◌, ◌≤◌, List, length, slice_index_or}
+use Rattle.std.specs.List.{All}
+use Rattle.cert_check.specs.declared.entry.Entry.{Entry}
+use Rattle.cert_check.specs.Machine.{max_entries}
+use Rattle.layers.specs.Layers.{joined}
+
+-- no layer is empty, and each is at least twice as long as the next
+pub record AreHalving (layers : List (List Entry)) : Type 0 where
+  pub some : All (λ layer. 0 < length layer) layers
+  pub halve : (k : ℕ) (c d : List Entry) → k + 1 < length layers
+      → 2 * length (slice_index_or layers (k + 1) c) ≤ length (slice_index_or layers k d)
+
+-- what a version keeps: its layers halve, and have together so many entries, which are not too many
+pub record IsVersion (layers : List (List Entry)) (count : ℕ) : Type 0 where
+  pub halving : AreHalving layers
+  pub counted : count ≡ length (joined layers)
+  pub few : count ≤ max_entries
+
+-- a number is no greater than the binary digits of another: where that is below 2^k, at most k
+abbrev pub IsWithinDigits : ℕ → ℕ → Type 0
+IsWithinDigits number of = (k : ℕ) → of < 2 ^ k → number ≤ k

@@ -1,0 +1,10 @@
+//! Frozen lists of entries in layers, and the first entry that decides a key.
+#![tactic(auto)]
+
+mod laws;
+mod layer;
+mod version;
+
+pub use laws::later_firsts_are_first;
+pub use layer::Layer;
+pub use version::Version;

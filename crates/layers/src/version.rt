@@ -1,0 +1,230 @@
+//! A frozen list of entries.
+ghost use Rattle.std.specs.Prelude.{◌≡◌, ◌+◌, ◌*◌, ◌<◌, ◌≤◌, [], ◌∷◌, ◌++◌, Some, IfOk, OnOk, length, take, drop};
+ghost use Rattle.std.specs.Prelude.{slice_get};
+ghost use Rattle.std.specs.Prelude.{slice_index_or, ℕ, List};
+ghost use Rattle.cert_check.specs.Decides.{IsFirstDeciding};
+ghost use Rattle.cert_check.specs.Machine.{max_entries};
+ghost use Rattle.cert_check.specs.declared.entry.Entry.{Entry as AnyEntry};
+ghost use Rattle.layers.specs.Layers.{IsFirstFrom, joined};
+ghost use Rattle.layers.specs.Halving.{AreHalving, IsVersion, IsWithinDigits};
+
+use crate::layer::Layer;
+use atom_implies::Steps;
+use cert_check::{Entry, Shared};
+use lin_model::Key;
+use outside::NoMemory;
+use std::alloc::Global;
+use std::marker::Model;
+use std::sync::ledger::Ledger;
+
+/// A list of at most 2^20 entries that never changes, in layers that versions share. Each layer is at least twice as
+/// long as the next, so there are no more layers than the length has binary digits.
+#[derive(Drop)]
+pub struct Version {
+    layers: Vec<Shared<Layer>>,
+    len: u32,
+}
+
+impl Model for Version {
+    ghost use Rattle.std.specs.Prelude.{List};
+    ghost use Rattle.cert_check.specs.declared.entry.Entry.{Entry};
+    ghost use Rattle.layers.specs.Halving.{IsVersion};
+
+    ghost Value = { List (List Entry) };
+
+    ghost view = { λ version. version.layers.items };
+
+    ghost invariant = { λ version. IsVersion version.layers.items version.len };
+}
+
+impl Version {
+    /// The version of these entries, at most 2^20, in one layer.
+    pub fn of(alloc: Global, entries: Vec<Shared<Entry>>) -> Result<Version, NoMemory>
+        requires { length entries.items ≤ max_entries }
+        ensures { IfOk result (λ version. joined version ≡ entries.items) }
+    {
+        let len = entries.len() as u32;
+        let mut layers = Vec::new(alloc);
+        if len > 0 {
+            layers.push(Shared::new(alloc, Layer::of(entries))?)?;
+        }
+        Ok(Version { layers, len })
+    }
+
+    /// The list with the entry at its end. The layers that are less than twice as long as what is behind them become
+    /// one new layer with it; this version and all others stay as they are.
+    pub fn add(&self, alloc: Global, entry: Shared<Entry>) -> Result<Version, NoMemory>
+        requires { length (joined self.now) < max_entries }
+        ensures { IfOk result (λ version. joined version ≡ joined self.now ++ entry ∷ []) }
+    {
+        let len = self.len();
+        let layers = with_entry(alloc, &self.layers, entry)?;
+        Ok(Version {
+            layers,
+            len: len + 1,
+        })
+    }
+
+    /// How many entries there are.
+    pub fn len(&self) -> u32
+        ensures len { result ≡ length (joined self.now) }
+        ensures few { result ≤ max_entries }
+    {
+        self.len
+    }
+
+    /// How many layers there are: at most as many as the length has binary digits.
+    pub fn layer_count(&self) -> u32
+        ensures count { result ≡ length self.now }
+        ensures few { IsWithinDigits result (length (joined self.now)) }
+    {
+        count_of(&self.layers)
+    }
+
+    /// The entry at this place, from 0.
+    pub fn entry(&self, place: u32) -> &Shared<Entry>
+        requires { place < length (joined self.now) }
+        ensures { slice_get (joined self.now) place ≡ Some result.now }
+    {
+        entry_at(&self.layers, place)
+    }
+
+    /// The least place, from 0, of an entry that decides the key.
+    pub fn first<L: Ledger>(&self, key: &Key, steps: &mut Steps<L>) -> Option<u32>
+        ensures { IsFirstDeciding (joined self.now) key.now result }
+    {
+        self.first_from(0, key, steps)
+    }
+
+    /// The least place at or after n of an entry that decides the key.
+    pub fn first_from<L: Ledger>(&self, n: u32, key: &Key, steps: &mut Steps<L>) -> Option<u32>
+        ensures { IsFirstFrom n (joined self.now) key.now result }
+    {
+        first_in(&self.layers, n, key, steps)
+    }
+}
+
+/// How many layers there are.
+fn count_of(layers: &[Shared<Layer>]) -> u32
+    requires halving { AreHalving layers.now }
+    requires few { length (joined layers.now) ≤ max_entries }
+    ensures count { result ≡ length layers.now }
+    ensures few { IsWithinDigits result (length (joined layers.now)) }
+{
+    layers.len() as u32
+}
+
+/// The least place at or after n of an entry of the layers that decides the key.
+fn first_in<L: Ledger>(
+    layers: &[Shared<Layer>],
+    n: u32,
+    key: &Key,
+    steps: &mut Steps<L>,
+) -> Option<u32>
+    requires { length (joined layers.now) ≤ max_entries }
+    ensures { IsFirstFrom n (joined layers.now) key.now result }
+{
+    let mut start = 0;
+    for layer in layers {
+        let layer = layer.get();
+        if let Some(place) = layer.first_from(n.saturating_sub(start), key, steps) {
+            return Some(start + place);
+        }
+        start += layer.len();
+    }
+    None
+}
+
+/// The layers with the entry at the end. Those that are less than twice as long as what is behind them become one new
+/// layer with it.
+fn with_entry(
+    alloc: Global,
+    layers: &[Shared<Layer>],
+    entry: Shared<Entry>,
+) -> Result<Vec<Shared<Layer>>, NoMemory>
+    requires halving { AreHalving layers.now }
+    requires room { length (joined layers.now) < max_entries }
+    ensures joined { IfOk result (λ more. joined more.items ≡ joined layers.now ++ entry ∷ []) }
+    ensures halving { IfOk result (λ more. AreHalving more.items) }
+{
+    let (front, behind) = layers.split_at(kept_layers(layers));
+    let last = joined_with(alloc, behind, entry)?;
+    let mut more = share_all(alloc, front)?;
+    more.push(Shared::new(alloc, last)?)?;
+    Ok(more)
+}
+
+/// How many layers at the front stay when an entry is added: up to the last that is at least twice as long as all that
+/// is behind it, with the entry.
+fn kept_layers(layers: &[Shared<Layer>]) -> usize
+    requires { length (joined layers.now) < max_entries }
+    ensures within { result ≤ length layers.now }
+    ensures long { (k : ℕ) (d : List AnyEntry) → k + 1 ≡ result
+        → 2 * (length (joined (drop result layers.now)) + 1) ≤ length (slice_index_or layers.now k d) }
+{
+    let mut front = layers;
+    let mut behind = 1;
+    while let [earlier @ .., last] = front {
+        let len = last.get().len();
+        if len >= 2 * behind {
+            break;
+        }
+        behind += len;
+        front = earlier;
+    }
+    front.len()
+}
+
+/// One owner more of each layer.
+fn share_all(alloc: Global, layers: &[Shared<Layer>]) -> Result<Vec<Shared<Layer>>, NoMemory>
+    ensures { IfOk result (λ shared. shared.items ≡ layers.now) }
+{
+    let mut shared = Vec::new(alloc);
+    for layer in layers {
+        shared.push(layer.share()?)?;
+    }
+    Ok(shared)
+}
+
+/// One layer of the entries of these layers, and the entry behind them.
+fn joined_with(
+    alloc: Global,
+    layers: &[Shared<Layer>],
+    entry: Shared<Entry>,
+) -> Result<Layer, NoMemory>
+    requires { length (joined layers.now) < max_entries }
+    ensures { IfOk result (λ layer. layer ≡ joined layers.now ++ entry ∷ []) }
+{
+    let mut entries = Vec::new(alloc);
+    for layer in layers {
+        share_into(&mut entries, layer.get().entries())?;
+    }
+    entries.push(entry)?;
+    Ok(Layer::of(entries))
+}
+
+/// Adds one owner more of each entry.
+fn share_into(out: &mut Vec<Shared<Entry>>, entries: &[Shared<Entry>]) -> Result<(), NoMemory>
+    ensures { OnOk result (out.new.items ≡ out.old.items ++ entries.now) }
+{
+    for entry in entries {
+        out.push(entry.share()?)?;
+    }
+    Ok(())
+}
+
+/// The entry at this place of the layers.
+fn entry_at(layers: &[Shared<Layer>], place: u32) -> &Shared<Entry>
+    requires { place < length (joined layers.now) }
+    ensures { slice_get (joined layers.now) place ≡ Some result.now }
+{
+    let mut rest = place;
+    for layer in layers {
+        let layer = layer.get();
+        if rest < layer.len() {
+            return &layer.entries()[rest as usize];
+        }
+        rest -= layer.len();
+    }
+    unreachable!()
+}
