@@ -101,7 +101,12 @@ fn words_are_counted_wherever_they_stand(rt: HostRuntime) -> Result<(), Fail> {
     expect_counted(&rt, (64, 0), inside, "68 6 TooManyExecutors")?;
     expect_counted(&rt, (63, 0), inside, "67 6 Syntax")?;
     expect_counted(&rt, (64, 0), "end executor\n", "66 5 TooManyExecutors")?;
-    expect_counted(&rt, (63, 0), "executor executor\n", "65 10 TooManyExecutors")?;
+    expect_counted(
+        &rt,
+        (63, 0),
+        "executor executor\n",
+        "65 10 TooManyExecutors",
+    )?;
     expect_counted(&rt, (1, 100_001), "end\n", "100003 1 TooManyQueries")?;
     expect_counted(&rt, (1, 99_999), "query query\n", "100002 7 TooManyQueries")
 }
