@@ -1,9 +1,11 @@
 mod CheckLemmas
 mod CoverLemmas
 mod EventLemmas
+mod FirstLemmas
 mod FlightLemmas
 mod LogLemmas
 mod RunLemmas
 mod SettleLemmas
 mod StandingLemmas
 mod Worked
+mod WrittenLemmas

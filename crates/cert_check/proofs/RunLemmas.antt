@@ -2,17 +2,16 @@
 use Rattle.std.proofs.Common.{◌≡◌, ℕ, suc, ◌+◌, ◌≤◌, ◌==◌, ◌∙◌, Bool, true, false, cond, List, [], ◌∷◌, ◌++◌, length, map}
 use Rattle.std.proofs.Common.{filter, arith, refl, sym, ap, subst}
 use Rattle.std.specs.List.{All, AllZip}
-use Rattle.std.proofs.lemmas.List.{append-nil, append_assoc, length-append}
+use Rattle.std.proofs.lemmas.List.{length-append}
 use Rattle.std.proofs.lemmas.List.Elements.{filter-append, All-nil, All-cons}
 use Rattle.lin_model.specs.KeyAtom.{PlainKeyAtom}
 use Rattle.cert_check.specs.declared.event.Event.{Event}
 use Rattle.cert_check.specs.declared.reply.Reply.{Reply}
 use Rattle.cert_check.specs.declared.reply.Reply.TheVariants.{Hit, Solved, Unkept, Spent}
-use Rattle.cert_check.specs.declared.wrote.Wrote.{Wrote}
 use Rattle.cert_check.specs.Machine.{Turn, begun, kept, unkept, spent, failed, event_of}
 use Rattle.cert_check.specs.Logs.{IsLegalLog}
 use Rattle.cert_check.specs.Replies.{Stands}
-use Rattle.cert_check.specs.Seats.{SeatState, SeatTerms, Grows, Gains, IsSound, entries_of, turns_of, wrotes_of}
+use Rattle.cert_check.specs.Seats.{SeatState, SeatTerms, Grows, Gains, IsSound, entries_of, turns_of}
 use Rattle.cert_check.specs.Calls.{flight_turns}
 use Rattle.cert_check.specs.Asks.{Asks, AsksAll, SavesRightly, end_of, writes_of, seen_in}
 use Rattle.cert_check.specs.Runs.{AreTurnsOfAll, writes_of_all, SeenNeverFalls, KeepsReplies, AskingKeepsReplies}

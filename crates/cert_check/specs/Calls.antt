@@ -3,7 +3,8 @@ use Rattle.std.specs.Prelude.{◌≡◌, ◌⊎◌, ◌↔◌, ℕ, ◌≤◌, B
 use Rattle.lin_model.specs.KeyAtom.{PlainKeyAtom}
 use Rattle.cert_check.specs.declared.entry.Entry.{Entry}
 use Rattle.cert_check.specs.declared.saved.Saved.{Saved}
-use Rattle.cert_check.specs.declared.saved.Saved.TheVariants.{At as SavedAt, Fault as SavedFault, Full as SavedFull, Off}
+use Rattle.cert_check.specs.declared.saved.Saved.TheVariants.{At as SavedAt, Fault as SavedFault, Full as SavedFull}
+use Rattle.cert_check.specs.declared.saved.Saved.TheVariants.{Off}
 use Rattle.cert_check.specs.declared.wrote.Wrote.{Wrote}
 use Rattle.cert_check.specs.declared.wrote.Wrote.TheVariants.{At, Fault, Full}
 use Rattle.cert_check.specs.Machine.{Turn, begun, failed}
@@ -26,9 +27,10 @@ abbrev pub IsOffRightly : SeatTerms → Saved → Type 0
 IsOffRightly terms saved = (saved ≡ Off) ↔ (terms.off ≡ true)
 
 -- The call took one flight on the key at most, begun with no fewer entries seen than at the call's start and ended with
--- this turn. The seat gained its turns and these writes alone, and what the call tells to have seen lies between what the
--- seat had seen and what it has.
-pub record MakesCall (key : List PlainKeyAtom) (began : ℕ) (end : Option Turn) (writes : List Wrote) (seen : ℕ) (old new : SeatState) : Type 0 where
+-- this turn. The seat gained its turns and these writes alone, and what the call tells to have seen lies between what
+-- the seat had seen and what it has.
+pub record MakesCall (key : List PlainKeyAtom) (began : ℕ) (end : Option Turn) (writes : List Wrote) (seen : ℕ)
+    (old new : SeatState) : Type 0 where
   pub looked : old.seen ≤ began
   pub gains : Gains (flight_turns old.terms.number key began end) writes old new
   pub sound : IsSound new

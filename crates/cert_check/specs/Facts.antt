@@ -5,9 +5,9 @@ use Rattle.std.proofs.lemmas.List.{append-nil, append_assoc}
 use Rattle.std.proofs.lemmas.List.Elements.{All-filter, All-head, All-push, All-tail}
 use Rattle.cert_check.specs.declared.flight.Flight.{Flight}
 use Rattle.cert_check.specs.declared.wrote.Wrote.{Wrote}
-use Rattle.cert_check.specs.Machine.{CoreState, Turn, begun, kept, unkept, spent, failed, after, seat_of, without}
+use Rattle.cert_check.specs.Machine.{CoreState, Turn, begun, kept, unkept, spent, failed, after, seat_of}
 use Rattle.cert_check.specs.Logs.{replayed, IsIdle, IsPossible, start}
-use Rattle.cert_check.specs.Seats.{SeatState, SeatTerms, Grows, Gains, turns_of, wrotes_of}
+use Rattle.cert_check.specs.Seats.{SeatState, SeatTerms, Gains, turns_of, wrotes_of}
 
 -- two pieces lead where the second leads from where the first led
 pub replayed-append : (s : CoreState) (log more : List Turn) → replayed s (log ++ more) ≡ replayed (replayed s log) more

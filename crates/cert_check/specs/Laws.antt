@@ -1,5 +1,5 @@
 -- What entries, logs and replies keep.
-use Rattle.std.specs.Prelude.{◌≡◌, ℕ, ℤ, ◌≤◌, List, [], ◌∷◌, ◌++◌, length, take, map}
+use Rattle.std.specs.Prelude.{◌≡◌, ℕ, ℤ, ◌≤◌, Option, List, [], ◌∷◌, ◌++◌, length, take, map}
 use Rattle.lin_model.specs.KeyAtom.{PlainKeyAtom}
 use Rattle.lin_model.specs.Key.{KeyHolds, key_width}
 use Rattle.refutation.specs.Reading.{HasNoPoint}
@@ -8,7 +8,7 @@ use Rattle.cert_check.specs.declared.entry.Entry.TheVariants.{Sat, Unsat}
 use Rattle.cert_check.specs.declared.event.Event.{Event}
 use Rattle.cert_check.specs.declared.reply.Reply.{Reply}
 use Rattle.cert_check.specs.declared.reply.Reply.TheVariants.{Hit, Solved, Unkept, Spent}
-use Rattle.cert_check.specs.Decides.{Decides, IsChecked, NoneDecides, key_of}
+use Rattle.cert_check.specs.Decides.{Decides, IsChecked, IsFirst, NoneDecides, key_of}
 use Rattle.cert_check.specs.Machine.{Turn, begun, MayCome, AreApart, after, event_of}
 use Rattle.cert_check.specs.Logs.{IsLegalLog, IsLogOf, entries_after, replayed, start}
 use Rattle.cert_check.specs.Replies.{Stands}
@@ -37,6 +37,15 @@ DecidingEntriesSettle = (e : Entry) (q : List PlainKeyAtom) → IsChecked e → 
 -- an entry decides its own key
 abbrev pub EntriesDecideTheirKeys : Type 0
 EntriesDecideTheirKeys = (e : Entry) → Decides e (key_of e)
+
+-- some place is the first where it holds, or it holds nowhere
+pub record HasFirst {X : Type 0} (P : X → Type 0) (xs : List X) : Type 0 where
+  pub place : Option ℕ
+  pub first : IsFirst P xs place
+
+-- each list of entries has, for each key, a first entry that decides it, or none
+abbrev pub FirstPlacesExist : Type 0
+FirstPlacesExist = (entries : List Entry) (key : List PlainKeyAtom) → HasFirst (λ e. Decides e key) entries
 
 -- opening entries and a log have one list of entries
 abbrev pub LogsDetermineEntries : Type 0
@@ -85,9 +94,10 @@ EntriesStay = (opening later : List Entry) (log more : List Turn) → IsLegalLog
 
 -- what a flight found when it began, by the entries at the end: those that it had seen were all, and none decided its
 -- key
-pub record BeganRightly (opening later : List Entry) (front : List Turn) (key : List PlainKeyAtom) (seen : ℕ) : Type 0 where
-  pub all : take seen later ≡ entries_after opening front
-  pub undecided : NoneDecides (take seen later) key
+pub record BeganRightly (opening later : List Entry) (front : List Turn) (key : List PlainKeyAtom) (seen : ℕ) : Type 0
+  where
+    pub all : take seen later ≡ entries_after opening front
+    pub undecided : NoneDecides (take seen later) key
 
 -- each flight of a legal log began so
 abbrev pub FlightsBeginRightly : Type 0

@@ -1,5 +1,5 @@
--- The core machine: a list of entries, the flights that are open, and the turns that change them. A flight is one seat's
--- attempt to answer one key.
+-- The core machine: a list of entries, the flights that are open, and the turns that change them. A flight is one
+-- seat's attempt to answer one key.
 use Rattle.std.specs.Prelude.{◌≡◌, ◌≢◌, ℕ, ◌^◌, ◌<◌, ◌≤◌, not, ◌==◌, List, [], ◌∷◌, ◌++◌, length, take, filter}
 use Rattle.std.specs.List.{All, AllPairs, Any}
 use Rattle.lin_model.specs.KeyAtom.{PlainKeyAtom}

@@ -1,6 +1,6 @@
 -- What asking several keys, one after another, does to a seat.
 use Rattle.std.specs.Prelude.{◌≡◌, ◌⊎◌, ℕ, ◌+◌, ◌≤◌, Bool, true, false, ◌==◌, List, [], ◌∷◌, ◌++◌, length, filter, map}
-use Rattle.std.specs.List.{All, AllZip}
+use Rattle.std.specs.List.{All, AllZip, Contains}
 use Rattle.lin_model.specs.KeyAtom.{PlainKeyAtom}
 use Rattle.cert_check.specs.declared.event.Event.{Event}
 use Rattle.cert_check.specs.declared.event.Event.TheVariants.{Begun, Ended}
@@ -34,7 +34,8 @@ SeenNeverFalls start (reply ∷ replies) end = (start ≤ seen_in reply) × Seen
 
 -- The seat gained the turns and the writes of these replies alone, and all of them stand for what it has seen in the
 -- end.
-pub record KeepsReplies (budget : ℕ) (keys : List (List PlainKeyAtom)) (replies : List Reply) (old new : SeatState) : Type 0 where
+pub record KeepsReplies (budget : ℕ) (keys : List (List PlainKeyAtom)) (replies : List Reply) (old new : SeatState)
+    : Type 0 where
   pub own : List Turn
   pub turns : AreTurnsOfAll old.terms.number keys replies own
   pub gains : Gains own (writes_of_all old.terms.number replies) old new
@@ -95,3 +96,12 @@ abbrev pub AsksJoin : Type 0
 AsksJoin = (budget : ℕ) (keys more : List (List PlainKeyAtom)) (replies others : List Reply) (old mid new : SeatState)
     → AsksAll budget keys replies old mid → AsksAll budget more others mid new
     → AsksAll budget (keys ++ more) (replies ++ others) old new
+
+-- what the journal did for a reply is among the writes that the seat has seen
+abbrev pub HasWritten : SeatState → Reply → Type 0
+HasWritten seat reply = All (λ write. Contains seat.wrotes write) (writes_of seat.terms.number reply)
+
+-- and so it is for each reply that was kept
+abbrev pub WritesAreKept : Type 0
+WritesAreKept = (budget : ℕ) (keys : List (List PlainKeyAtom)) (replies : List Reply) (old new : SeatState)
+    → KeepsReplies budget keys replies old new → All (HasWritten new) replies

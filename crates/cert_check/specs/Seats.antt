@@ -12,8 +12,8 @@ pub record SeatTerms : Type 0 where
   pub opening : List Entry
   pub off : Bool
 
--- a seat: its terms, the log of the store that it has seen, how many of the entries after it it has seen, and the writes
--- of the journal that it has seen
+-- a seat: its terms, the log of the store that it has seen, how many of the entries after it it has seen, and the
+-- writes of the journal that it has seen
 pub record SeatState : Type 0 where
   pub terms : SeatTerms
   pub log : List Turn

@@ -1,11 +1,13 @@
 //! Laws of entries, logs and replies, each the contract of a function that does nothing, or only calls such laws of
 //! crates below.
-ghost use Rattle.cert_check.specs.Laws.{DecidingEntriesSettle, EntriesDecideTheirKeys, LogsDetermineEntries};
-ghost use Rattle.cert_check.specs.Laws.{EventsDetermineLogs, PlacesStay, LegalLogsTell, LogsGoOn, FrontsAreLegal};
-ghost use Rattle.cert_check.specs.Laws.{EntriesStay, FlightsBeginRightly, FlightsStayApart, RepliesGoOnStanding, RepliesSettle};
-ghost use Rattle.cert_check.specs.Runs.{AskingKeepsReplies, AsksJoin, FlightsAreCounted};
+ghost use Rattle.cert_check.specs.Laws.{DecidingEntriesSettle, EntriesDecideTheirKeys, FirstPlacesExist};
+ghost use Rattle.cert_check.specs.Laws.{LogsDetermineEntries, EventsDetermineLogs, PlacesStay, LegalLogsTell};
+ghost use Rattle.cert_check.specs.Laws.{LogsGoOn, FrontsAreLegal, EntriesStay, FlightsBeginRightly, FlightsStayApart};
+ghost use Rattle.cert_check.specs.Laws.{RepliesGoOnStanding, RepliesSettle};
+ghost use Rattle.cert_check.specs.Runs.{AskingKeepsReplies, AsksJoin, FlightsAreCounted, WritesAreKept};
 
-use atom_implies::covered_keys_hold;
+use atom_implies::{covered_keys_hold, table_is_right};
+use lin_model::order_is_total;
 use refutation::refuted_keys_have_no_point;
 
 /// A checked entry settles each key that it decides: its point has a value for each variable of the key and satisfies
@@ -21,6 +23,15 @@ pub fn deciding_entries_settle()
 pub fn entries_decide_their_keys()
     ensures { EntriesDecideTheirKeys }
 {}
+
+/// Whether an entry decides a key can be told, so each list of entries has, for each key, a first entry that decides
+/// it, or none.
+pub fn first_places_exist()
+    ensures { FirstPlacesExist }
+{
+    order_is_total();
+    table_is_right();
+}
 
 /// Opening entries and a log have one list of entries.
 pub fn logs_determine_entries()
@@ -93,4 +104,9 @@ pub fn asks_join()
 /// Each reply but a hit took one flight of the seat, a hit took none, and the seat began no other: so the events tell.
 pub fn flights_are_counted()
     ensures { FlightsAreCounted }
+{}
+
+/// What the journal did for each reply that was kept is among the writes that the seat has seen.
+pub fn writes_are_kept()
+    ensures { WritesAreKept }
 {}

@@ -21,9 +21,10 @@ pub use event::{Ending, Event};
 pub use flight::Flight;
 pub use laws::{
     asking_keeps_replies, asks_join, deciding_entries_settle, entries_decide_their_keys,
-    entries_stay, events_determine_logs, flights_are_counted, flights_begin_rightly,
-    flights_stay_apart, fronts_are_legal, legal_logs_tell, logs_determine_entries, logs_go_on,
-    places_stay, replies_go_on_standing, replies_settle,
+    entries_stay, events_determine_logs, first_places_exist, flights_are_counted,
+    flights_begin_rightly, flights_stay_apart, fronts_are_legal, legal_logs_tell,
+    logs_determine_entries, logs_go_on, places_stay, replies_go_on_standing, replies_settle,
+    writes_are_kept,
 };
 pub use oracle::SliceOracle;
 pub use refused::{NotUnsat, Refused};

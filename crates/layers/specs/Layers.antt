@@ -1,5 +1,6 @@
 -- Lists of entries in layers, and the first entry from a place on that decides a key.
-use Rattle.std.specs.Prelude.{ℕ, ◌<◌, ◌≤◌, Option, Some, None, IsSomeAnd, List, [], ◌∷◌, ◌++◌, length, take, slice_index_or}
+use Rattle.std.specs.Prelude.{ℕ, ◌<◌, ◌≤◌, Option, Some, None, IsSomeAnd, List, [], ◌∷◌, ◌++◌, length, take}
+use Rattle.std.specs.Prelude.{slice_index_or}
 use Rattle.std.specs.List.{slice_get}
 use Rattle.lin_model.specs.KeyAtom.{PlainKeyAtom}
 use Rattle.cert_check.specs.declared.entry.Entry.{Entry}

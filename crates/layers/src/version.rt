@@ -89,6 +89,13 @@ impl Version {
         entry_at(&self.layers, place)
     }
 
+    /// One owner more of each entry, in their order.
+    pub fn entries(&self, alloc: Global) -> Result<Vec<Shared<Entry>>, NoMemory>
+        ensures { IfOk result (λ entries. entries.items ≡ joined self.now) }
+    {
+        entries_of(alloc, &self.layers)
+    }
+
     /// The least place, from 0, of an entry that decides the key.
     pub fn first<L: Ledger>(&self, key: &Key, steps: &mut Steps<L>) -> Option<u32>
         ensures { IsFirstDeciding (joined self.now) key.now result }
@@ -195,12 +202,20 @@ fn joined_with(
     requires { length (joined layers.now) < max_entries }
     ensures { IfOk result (λ layer. layer ≡ joined layers.now ++ entry ∷ []) }
 {
+    let mut entries = entries_of(alloc, layers)?;
+    entries.push(entry)?;
+    Ok(Layer::of(entries))
+}
+
+/// One owner more of each entry of these layers.
+fn entries_of(alloc: Global, layers: &[Shared<Layer>]) -> Result<Vec<Shared<Entry>>, NoMemory>
+    ensures { IfOk result (λ entries. entries.items ≡ joined layers.now) }
+{
     let mut entries = Vec::new(alloc);
     for layer in layers {
         share_into(&mut entries, layer.get().entries())?;
     }
-    entries.push(entry)?;
-    Ok(Layer::of(entries))
+    Ok(entries)
 }
 
 /// Adds one owner more of each entry.

@@ -1,0 +1,6 @@
+mod AskLemmas
+mod AskingLemmas
+mod FlyingLemmas
+mod LandLemmas
+mod OwnLemmas
+mod SolvingLemmas

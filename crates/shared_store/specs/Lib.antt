@@ -1,0 +1,4 @@
+pub mod Solving
+pub mod Flights
+pub mod Local
+pub mod Laws

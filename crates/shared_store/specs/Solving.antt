@@ -1,0 +1,47 @@
+-- What solving a key comes to.
+use Rattle.std.specs.Prelude.{◌≡◌, ℕ, ℤ, List, [], length}
+use Rattle.lin_model.specs.Key.{KeyHolds, key_width}
+use Rattle.lin_model.specs.KeyAtom.{PlainKeyAtom}
+use Rattle.lin_model.specs.Point.{IsPoint}
+use Rattle.refutation.specs.SearchTree.{IsOpenTree}
+use Rattle.refutation.specs.Tree.{PlainTree}
+use Rattle.refutation.specs.declared.leaf.LeafTerm.{LeafTerm}
+use Rattle.refutation.specs.declared.node.Node.{Node}
+use Rattle.box_solver.specs.Answer.{IsModelTree, IsRefutingTree}
+use Rattle.cert_check.specs.declared.entry.Entry.{Entry}
+use Rattle.cert_check.specs.declared.entry.Entry.TheVariants.{Sat, Unsat}
+use Rattle.cert_check.specs.Decides.{Decides, IsChecked}
+use Rattle.shared_store.specs.declared.solving.Evidence.{Evidence}
+use Rattle.shared_store.specs.declared.solving.Evidence.TheVariants.{Decided, Open}
+
+-- a point with one value for each variable of the key, which satisfies it
+pub record IsModelPoint (key : List PlainKeyAtom) (point : List ℤ) : Type 0 where
+  pub is_point : IsPoint point
+  pub one_each : length point ≡ key_width key
+  pub holds : KeyHolds key point
+
+-- a search of at most the budget's splits came to the point
+pub record IsModelWithin (budget : ℕ) (key : List PlainKeyAtom) (point : List ℤ) : Type 0 where
+  pub nodes : List Node
+  pub terms : List LeafTerm
+  pub tree : IsModelTree key budget point nodes terms
+
+-- a search of at most the budget's splits came to the evidence of the entry, which has the whole key
+abbrev pub IsFoundWithin : ℕ → List PlainKeyAtom → Entry → Type 0
+IsFoundWithin budget key (Sat e) = (e.key ≡ key) × IsModelWithin budget key e.point
+IsFoundWithin budget key (Unsat e) = (e.key ≡ key) × IsRefutingTree key budget e.tree.nodes e.tree.terms
+
+-- a checked entry that decides the key, to which such a search came
+pub record IsEntryFor (budget : ℕ) (key : List PlainKeyAtom) (entry : Entry) : Type 0 where
+  pub checked : IsChecked entry
+  pub decides : Decides entry key
+  pub found : IsFoundWithin budget key entry
+
+-- what each kind of evidence says of the key
+abbrev pub IsEvidence : ℕ → List PlainKeyAtom → Evidence → Type 0
+IsEvidence budget key (Decided entry) = IsEntryFor budget key entry
+IsEvidence budget key (Open tree) = IsOpenTree key budget tree.nodes tree.terms
+
+-- a region without a tree
+abbrev pub IsBlank : PlainTree → Type 0
+IsBlank region = region ≡ record { nodes = []; terms = [] }
