@@ -1,14 +1,14 @@
 #!/bin/sh
-# Times sessions of 1,000, 10,000 and 100,000 queries from text to text, and prints the seconds of each. Asserts nothing.
+# Times sessions of 1,000 and 10,000 queries from text to text, and prints the seconds of each. Asserts nothing.
 # A query has three variables over 0 to 99 and four comparisons, made from the numbers of a linear congruential generator.
 set -eu
 cd "$(dirname "$0")/.."
 text=$(mktemp)
 trap 'rm -f "$text"' EXIT
 printf 'green 1\nend\n' | ./green solve > /dev/null
-for count in 1000 10000 100000; do
+for count in 1000 10000; do
     awk -v count="$count" '
-        function draw() { state = (state * 1103515245 + 12345) % 2147483648; return int(state / 65536) }
+        function draw() { state = state * 16807 % 2147483647; return int(state / 32) }
         BEGIN {
             split("<= >= = !=", op, " ")
             state = 7

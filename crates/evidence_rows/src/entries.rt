@@ -97,29 +97,54 @@ fn try_deciding<L: Ledger>(rt: &(impl Abort + AllocGlobal), blank: Blank) -> Res
 
 /// `v0 <= 3` implies `v0 <= 100` and not `v0 <= 2`, and `v0 >= 3` implies `v0 >= 2`.
 fn try_sat<L: Ledger>(rt: &(impl Abort + AllocGlobal), steps: &mut Steps<L>) -> Result<(), Fail> {
-    let Ok(entry) = at_value(rt.alloc(), 3)? else {
-        return Err(Fail::from("an entry"));
-    };
+    let entry = entry_of(at_value(rt.alloc(), 3)?.ok())?;
     let wide = between(rt.alloc(), &VARIABLE, 100, 2)?;
-    assert!(rt; decides(&entry, &wide, steps));
+    expect(rt, &entry, wide, true, steps);
     let narrow = between(rt.alloc(), &VARIABLE, 2, 1)?;
-    assert!(rt; !decides(&entry, &narrow, steps));
+    expect(rt, &entry, narrow, false, steps);
     Ok(())
 }
 
 /// The core is decided by tighter atoms, whatever stands beside them, and not by one of them alone.
 fn try_core<L: Ledger>(rt: &(impl Abort + AllocGlobal), steps: &mut Steps<L>) -> Result<(), Fail> {
-    let alloc = rt.alloc();
-    let Ok(core) = crossed(alloc, &[Node::Combo { count: 2 }])? else {
-        return Err(Fail::from("a core"));
-    };
+    let core = entry_of(crossed(rt.alloc(), &[Node::Combo { count: 2 }])?.ok())?;
+    let beside = tighter(rt.alloc())?;
+    expect(rt, &core, beside, true, steps);
+    let alone = upper(rt.alloc())?;
+    expect(rt, &core, alone, false, steps);
+    Ok(())
+}
+
+fn entry_of(entry: Option<Entry>) -> Result<Entry, Fail> {
+    match entry {
+        Some(entry) => Ok(entry),
+        None => Err(Fail::from("an entry")),
+    }
+}
+
+/// Atoms tighter than those of the core, and one beside them.
+fn tighter(alloc: Global) -> Result<Key, Fail> {
     let mut atoms = Vec::new(alloc);
     atoms.push(atom(alloc, &DIFFERENCE, Op::Le, -7)?)?;
     atoms.push(atom(alloc, &DIFFERENCE, Op::Ge, 5)?)?;
     atoms.push(atom(alloc, &SUM, Op::Le, 3)?)?;
-    assert!(rt; decides(&core, &key_of(atoms)?, steps));
-    let mut alone = Vec::new(alloc);
-    alone.push(atom(alloc, &DIFFERENCE, Op::Le, -1)?)?;
-    assert!(rt; !decides(&core, &key_of(alone)?, steps));
-    Ok(())
+    key_of(atoms)
+}
+
+/// One atom of the core.
+fn upper(alloc: Global) -> Result<Key, Fail> {
+    let mut atoms = Vec::new(alloc);
+    atoms.push(atom(alloc, &DIFFERENCE, Op::Le, -1)?)?;
+    key_of(atoms)
+}
+
+/// Expects that the entry decides the key, or that it doesn't.
+fn expect<L: Ledger>(
+    rt: &(impl Abort + AllocGlobal),
+    entry: &Entry,
+    key: Key,
+    want: bool,
+    steps: &mut Steps<L>,
+) {
+    assert_eq!(rt; decides(entry, &key, steps), want);
 }

@@ -27,47 +27,33 @@ fn pinned(alloc: Global) -> Result<Key, Fail> {
 
 #[test]
 fn two_terms_refute(rt: HostRuntime) -> Result<(), Fail> {
-    let alloc = rt.alloc();
-    let key = crossed(alloc, -1, 1)?;
+    let key = crossed(rt.alloc(), -1, 1)?;
     let combo = [Node::Combo { count: 2 }];
     let both = [on_atom(0, 1), on_atom(1, 1)];
-    assert_eq!(rt; refutes(alloc, &key, &combo, &both), Ok(()));
+    expect_tree(&rt, &key, &combo, &both, Ok(()));
 
     let changed = [on_atom(0, 1), on_atom(1, 2)];
-    assert_eq!(rt;
-        refutes(alloc, &key, &combo, &changed),
-        Err(TreeFault::NodeFails(0))
-    );
+    expect_tree(&rt, &key, &combo, &changed, Err(TreeFault::NodeFails(0)));
     let left_over = [on_atom(0, 1), on_atom(1, 1), on_atom(1, 1)];
-    assert_eq!(rt;
-        refutes(alloc, &key, &combo, &left_over),
-        Err(TreeFault::TreeGoesOn)
-    );
-    assert_eq!(rt; refutes(alloc, &key, &[], &[]), Err(TreeFault::TreeEnds));
+    expect_tree(&rt, &key, &combo, &left_over, Err(TreeFault::TreeGoesOn));
+    expect_tree(&rt, &key, &[], &[], Err(TreeFault::TreeEnds));
     let twice = [Node::Combo { count: 2 }, Node::Empty];
-    assert_eq!(rt;
-        refutes(alloc, &key, &twice, &both),
-        Err(TreeFault::TreeGoesOn)
-    );
+    expect_tree(&rt, &key, &twice, &both, Err(TreeFault::TreeGoesOn));
     Ok(())
 }
 
 #[test]
 fn a_split_by_an_atom_needs_its_sides(rt: HostRuntime) -> Result<(), Fail> {
-    let alloc = rt.alloc();
-    let key = pinned(alloc)?;
+    let key = pinned(rt.alloc())?;
     let nodes = [
         Node::NeSplit { atom: 2 },
         Node::Combo { count: 2 },
         Node::Combo { count: 2 },
     ];
     let terms = [on_atom(1, 1), on_side(0, 1), on_atom(0, 1), on_side(0, 1)];
-    assert_eq!(rt; refutes(alloc, &key, &nodes, &terms), Ok(()));
+    expect_tree(&rt, &key, &nodes, &terms, Ok(()));
     let exchanged = [on_atom(0, 1), on_side(0, 1), on_atom(1, 1), on_side(0, 1)];
-    assert_eq!(rt;
-        refutes(alloc, &key, &nodes, &exchanged),
-        Err(TreeFault::NodeFails(1))
-    );
+    expect_tree(&rt, &key, &nodes, &exchanged, Err(TreeFault::NodeFails(1)));
     Ok(())
 }
 

@@ -7,22 +7,27 @@ use Rattle.std.specs.List.{AllZip, Any, list_any}
 use Rattle.std.proofs.lemmas.List.Folds.{Any-from_list_any}
 use Rattle.outside.specs.Counts.{Rose}
 use Rattle.lin_model.specs.Conditions.{PlainCondition}
+use Rattle.lin_model.specs.KeyAtom.{PlainKeyAtom}
+use Rattle.cert_check.specs.declared.reply.Reply.{Reply}
+use Rattle.cert_check.specs.Replies.{Stands, StandsFor}
 use Rattle.session_text.specs.Laws.{SpelledHasNoFault}
 use Rattle.session_text.specs.Sessions.{SpellsSession}
 use Rattle.pipeline.specs.Answers.{IsRightAnswer}
 use Rattle.pipeline.specs.Laws.{Suffices, SufficientDecides}
-use Rattle.pipeline.specs.declared.answer.Plain.{Plain}
-use Rattle.pipeline.specs.declared.answer.Verdict.{Verdict}
-use Rattle.pipeline.specs.declared.answer.Verdict.TheVariants.{Sat, UnsatAtom, UnsatSlice, Unknown}
+use Rattle.pipeline.specs.declared.answers.Answer.{Answer}
+use Rattle.pipeline.specs.declared.answers.Verdict.{Verdict}
+use Rattle.pipeline.specs.declared.answers.Verdict.TheVariants.{Sat, UnsatAtom, UnsatSlice, Unknown}
 use Rattle.green_cli.specs.Call.{Call, KeepsDisks, NothingFails}
-use Rattle.green_cli.specs.AnswersText.{answers_text}
+use Rattle.green_cli.specs.AnswersText.{HaveAnswers, answers_text}
 use Rattle.green_cli.specs.Input.{Consumes, Drains, GivesSession, InputWasRead, TakesAtMost, max_input}
-use Rattle.green_cli.specs.Solve.{AreRight, IsDoneOrStarved, IsSolved, Solves, SufficesFor, solve_cause}
+use Rattle.green_cli.specs.Answered.{IsRightReport, LogIsLegal}
+use Rattle.green_cli.specs.Solve.{IsDoneOrStarved, IsSolved, Solves, SufficesFor, solve_cause}
 use Rattle.green_cli.specs.Statuses.{Ends, FaultIsWritten, IsEmpty, IsRefused, IsWrittenAs}
 use Rattle.green_cli.specs.Statuses.{has_unknown, is_unknown, run_status, status_of}
 use Rattle.green_cli.specs.declared.fault.Fault.{Fault}
 use Rattle.green_cli.specs.declared.fault.Fault.TheVariants.{Usage, Text, Read, NoMemory, TooLong}
 use Rattle.green_cli.specs.declared.outcome.Report.{Report}
+use Rattle.green_cli.proofs.RunLemmas.{each_right, have_answers}
 
 -- ---- refusals
 
@@ -126,45 +131,55 @@ verdict_known (UnsatSlice slice) other unknown = cc
 verdict_known (Unknown slice) other unknown = other slice refl
 
 -- no answer is unknown
-none_unknown : SufficientDecides → (budget : ℕ) (report : Report) → AreRight budget report.session report.answers
-    → SufficesFor budget report → has_unknown report.answers ≡ true → ⊥
-none_unknown law budget report right suffices any =
-    zip_excludes (λ queries script. AllZip (λ q answer. IsRightAnswer budget q answer) queries script)
-    (λ queries script. AllZip (λ q answer. Suffices budget q answer) queries script)
-    (λ script. list_any (λ answer. is_unknown answer.verdict) script ≡ true)
-    by_query report.session report.answers right suffices (Any-from_list_any _ report.answers any)
-  where
-    by_query : (queries : List PlainCondition) (script : List Plain)
-        → AllZip (λ q answer. IsRightAnswer budget q answer) queries script
-        → AllZip (λ q answer. Suffices budget q answer) queries script
-        → list_any (λ answer. is_unknown answer.verdict) script ≡ true → ⊥
-    by_query queries script are suffice some =
-        zip_excludes (λ q answer. IsRightAnswer budget q answer) (λ q answer. Suffices budget q answer)
-        (λ answer. is_unknown answer.verdict ≡ true)
-        (λ q answer is enough. verdict_known answer.verdict (law budget q answer is enough).told)
-        queries script are suffice (Any-from_list_any _ script some)
+module _ (law : SufficientDecides) (budget : ℕ) (report : Report) where
+  none_unknown : LogIsLegal 0 budget [] report → HaveAnswers report.session report.answers → SufficesFor budget report
+      → has_unknown report.answers ≡ true → ⊥
+  none_unknown logged shape suffices any =
+      zip_excludes (λ queries script. AllZip (λ q answer. IsRightAnswer stands q answer) queries script)
+      (λ queries script. AllZip (λ q answer. Suffices budget q answer) queries script)
+      (λ script. list_any (λ answer. is_unknown answer.verdict) script ≡ true)
+      by_query report.session report.answers
+      (each_right stands report.session report.answers logged.of_seat.keys shape logged.of_seat.right) suffices
+      (Any-from_list_any _ report.answers any)
+    where
+      stands : List PlainKeyAtom → Reply → Type 0
+      stands key reply = Stands logged.log report.entries 0 budget key reply
+
+      by_query : (queries : List PlainCondition) (script : List Answer)
+          → AllZip (λ q answer. IsRightAnswer stands q answer) queries script
+          → AllZip (λ q answer. Suffices budget q answer) queries script
+          → list_any (λ answer. is_unknown answer.verdict) script ≡ true → ⊥
+      by_query queries script are suffice some =
+          zip_excludes (λ q answer. IsRightAnswer stands q answer) (λ q answer. Suffices budget q answer)
+          (λ answer. is_unknown answer.verdict ≡ true)
+          (λ q answer is enough. verdict_known answer.verdict
+          (law logged.log report.entries 0 budget q answer is enough).told)
+          queries script are suffice (Any-from_list_any _ script some)
 
 -- ---- the whole promise
 
 solved_not_unknown : {D : Type 0} (law : SufficientDecides) (budget : ℕ) (call : Call D) → IsSolved budget call
     → SufficesFor budget call.report → call.status ≢ 3
 solved_not_unknown law budget call solved suffices three =
+    let shape = have_answers (StandsFor call.report.log call.report.entries 0 budget) call.report.session
+    call.report.answers solved.report.answers in
     ⊎_elim
-    (λ whole. none_unknown law budget call.report solved.answers suffices
+    (λ whole. none_unknown law budget call.report solved.report.log shape suffices
     (run_status_unknown call.report (sym whole.1 ∙ three)))
     (λ cut. absurd (omega (arith, cut.1, three))) solved.result
 
 -- the report and what was read, with its text
 solved_by : {D : Type 0} (budget : ℕ) (call : Call D) (report : Report) (text : List ℕ) → call.report ≡ report
-    → InputWasRead call.source report.session → AreRight budget report.session report.answers
+    → InputWasRead call.source report.session → IsRightReport budget report
     → text ≡ answers_text report.session report.answers → Ends text (run_status report) call.sink call.status
     → IsSolved budget call
 solved_by budget call report text is input right spelled ends =
+    let right_so : IsRightReport budget call.report = subst (IsRightReport budget) (sym is) right in
     let ends_so : Ends (answers_text report.session report.answers) (run_status report) call.sink call.status =
     subst (λ (t : List ℕ). Ends t (run_status report) call.sink call.status) spelled ends in
     record {
       input = subst (λ (r : Report). InputWasRead call.source r.session) (sym is) input;
-      answers = subst (λ (r : Report). AreRight budget r.session r.answers) (sym is) right;
+      report = right_so;
       result =
           subst (λ (r : Report). Ends (answers_text r.session r.answers) (run_status r) call.sink call.status) (sym is)
           ends_so;
@@ -172,7 +187,7 @@ solved_by budget call report text is input right spelled ends =
 
 pub solves_where_answered : {D : Type 0} → SufficientDecides → (budget : ℕ) (call : Call D) (report : Report)
     (text : List ℕ) → call.report ≡ report → InputWasRead call.source report.session
-    → AreRight budget report.session report.answers → text ≡ answers_text report.session report.answers
+    → IsRightReport budget report → text ≡ answers_text report.session report.answers
     → Ends text (run_status report) call.sink call.status → KeepsDisks call
     → TakesAtMost (max_input + 1) call.source → Solves budget call
 solves_where_answered law budget call report text is input right spelled ends disks bounded =

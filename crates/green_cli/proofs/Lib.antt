@@ -1,7 +1,8 @@
 mod CompleteLemmas
-mod FewLemmas
 mod InputLemmas
 mod LineChecks
+mod ReportLemmas
+mod RunLemmas
 mod StatusLemmas
 mod TextLemmas
 mod TakenLemmas

@@ -4,11 +4,13 @@ use Rattle.std.specs.List.{AllZip}
 use Rattle.lin_model.specs.Terms.{PlainVar}
 use Rattle.lin_model.specs.Conditions.{PlainCondition}
 use Rattle.lin_text.specs.Spelling.{line, integer}
-use Rattle.pipeline.specs.declared.answer.Verdict.{Verdict}
-use Rattle.pipeline.specs.declared.answer.Verdict.TheVariants.{Sat, UnsatAtom, UnsatSlice, Unknown}
-use Rattle.pipeline.specs.declared.answer.PlainPart.{PlainPart}
-use Rattle.pipeline.specs.declared.answer.PlainPart.TheVariants.{Solved, Open}
-use Rattle.pipeline.specs.declared.answer.Plain.{Plain}
+use Rattle.cert_check.specs.declared.reply.Reply.{Reply}
+use Rattle.cert_check.specs.declared.reply.Reply.TheVariants.{Hit, Solved, Unkept, Spent}
+use Rattle.cert_check.specs.declared.saved.Saved.{Saved}
+use Rattle.cert_check.specs.declared.saved.Saved.TheVariants.{At, Fault, Full, Off}
+use Rattle.pipeline.specs.declared.answers.Answer.{Answer}
+use Rattle.pipeline.specs.declared.answers.Verdict.{Verdict}
+use Rattle.pipeline.specs.declared.answers.Verdict.TheVariants.{Sat, UnsatAtom, UnsatSlice, Unknown}
 
 -- one variable of a model
 unfoldable pub value_text : PlainVar → ℤ → List ℕ
@@ -27,63 +29,46 @@ verdict_text vars (UnsatAtom atom) = codes "unsat atom " ++ decimal (atom + 1)
 verdict_text vars (UnsatSlice slice) = codes "unsat slice " ++ decimal (slice + 1)
 verdict_text vars (Unknown slice) = codes "unknown slice " ++ decimal (slice + 1)
 
--- the mark of a part that was solved; `place` parts were solved before it in the session
-unfoldable pub new_text : ℕ → List ℕ
-new_text place = codes " [new " ++ decimal place ++ codes "]"
+-- what the mark of an entry says of the journal, up to its end
+unfoldable pub saved_text : Saved → List ℕ
+saved_text (At at) = codes " saved]"
+saved_text Fault = codes " fault]"
+saved_text Full = codes " full]"
+saved_text Off = codes "]"
 
--- the mark of a part; a part that was left open has no place
-unfoldable pub part_text : ℕ → PlainPart → List ℕ
-part_text place Solved = new_text place
-part_text place (Open tree) = codes " [spent]"
-
--- a part that was solved counts, and one that was left open doesn't
-abbrev pub solved_of : PlainPart → ℕ
-solved_of Solved = 1
-solved_of (Open tree) = 0
-
--- how many of the parts were solved
-abbrev pub solved_in : List PlainPart → ℕ
-solved_in [] = 0
-solved_in (part ∷ parts) = solved_of part + solved_in parts
-
--- the same of the parts of these answers
-abbrev pub solved_count : List Plain → ℕ
-solved_count [] = 0
-solved_count (answer ∷ answers) = solved_in answer.parts + solved_count answers
-
--- the same for all executors
-abbrev pub solved_in_all : List (List Plain) → ℕ
-solved_in_all [] = 0
-solved_in_all (answers ∷ scripts) = solved_count answers + solved_in_all scripts
+-- the mark of a part; places are those of entries
+unfoldable pub part_text : Reply → List ℕ
+part_text (Hit entry place n) = codes " [hit " ++ decimal place ++ codes "]"
+part_text (Solved entry place n saved) = codes " [new " ++ decimal place ++ saved_text saved
+part_text (Unkept entry n saved) = codes " [unkept" ++ saved_text saved
+part_text (Spent tree n) = codes " [spent]"
 
 -- the marks of these parts, in order
-unfoldable pub parts_text : ℕ → List PlainPart → List ℕ
-parts_text place [] = []
-parts_text place (part ∷ parts) = part_text place part ++ parts_text (place + solved_of part) parts
+unfoldable pub parts_text : List Reply → List ℕ
+parts_text [] = []
+parts_text (part ∷ parts) = part_text part ++ parts_text parts
 
 -- an answer, without the line feed
-unfoldable pub answer_text : ℕ → PlainCondition → Plain → List ℕ
-answer_text place q answer = verdict_text q.vars answer.verdict ++ parts_text place answer.parts
+unfoldable pub answer_text : PlainCondition → Answer → List ℕ
+answer_text q answer = verdict_text q.vars answer.verdict ++ parts_text answer.parts
 
 -- there is one answer for each query of each executor
-abbrev pub HaveAnswers : List (List PlainCondition) → List (List Plain) → Type 0
+abbrev pub HaveAnswers : List (List PlainCondition) → List (List Answer) → Type 0
 HaveAnswers session answers = AllZip (λ queries script. length queries ≡ length script) session answers
 
 -- the answers of one executor, a line each
-unfoldable pub script_text : ℕ → List PlainCondition → List Plain → List ℕ
-script_text place [] answers = []
-script_text place (q ∷ queries) [] = []
-script_text place (q ∷ queries) (answer ∷ answers) =
-    line (answer_text place q answer) ++ script_text (place + solved_in answer.parts) queries answers
+unfoldable pub script_text : List PlainCondition → List Answer → List ℕ
+script_text [] answers = []
+script_text (q ∷ queries) [] = []
+script_text (q ∷ queries) (answer ∷ answers) = line (answer_text q answer) ++ script_text queries answers
 
 -- the answers of all executors
-unfoldable pub executors_text : ℕ → List (List PlainCondition) → List (List Plain) → List ℕ
-executors_text place [] scripts = []
-executors_text place (queries ∷ executors) [] = []
-executors_text place (queries ∷ executors) (answers ∷ scripts) =
-    line (codes "executor") ++ script_text place queries answers ++ executors_text (place + solved_count answers)
-    executors scripts
+unfoldable pub executors_text : List (List PlainCondition) → List (List Answer) → List ℕ
+executors_text [] scripts = []
+executors_text (queries ∷ executors) [] = []
+executors_text (queries ∷ executors) (answers ∷ scripts) =
+    line (codes "executor") ++ script_text queries answers ++ executors_text executors scripts
 
 -- the whole text
-unfoldable pub answers_text : List (List PlainCondition) → List (List Plain) → List ℕ
-answers_text session answers = line (codes "green answers 1") ++ executors_text 0 session answers ++ line (codes "end")
+unfoldable pub answers_text : List (List PlainCondition) → List (List Answer) → List ℕ
+answers_text session answers = line (codes "green answers 1") ++ executors_text session answers ++ line (codes "end")

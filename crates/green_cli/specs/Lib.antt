@@ -1,3 +1,4 @@
+pub mod Answered
 pub mod AnswersText
 pub mod Call
 pub mod Commands

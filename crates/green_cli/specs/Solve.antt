@@ -1,10 +1,8 @@
 -- What `solve` promises.
-use Rattle.std.specs.Prelude.{◌≡◌, ◌≢◌, ◌⊎◌, ℕ, ◌+◌, List}
+use Rattle.std.specs.Prelude.{◌≡◌, ◌≢◌, ◌⊎◌, ℕ, ◌+◌}
 use Rattle.std.specs.List.{AllZip}
-use Rattle.lin_model.specs.Conditions.{PlainCondition}
-use Rattle.pipeline.specs.Answers.{IsRightAnswer}
 use Rattle.pipeline.specs.Laws.{Suffices}
-use Rattle.pipeline.specs.declared.answer.Plain.{Plain}
+use Rattle.green_cli.specs.Answered.{IsRightReport}
 use Rattle.green_cli.specs.AnswersText.{answers_text}
 use Rattle.green_cli.specs.Call.{Call, KeepsDisks, NothingFails}
 use Rattle.green_cli.specs.Input.{GivesSession, InputWasRead, TakesAtMost, max_input, session_cause}
@@ -12,22 +10,17 @@ use Rattle.green_cli.specs.Statuses.{IsRefused, WritesResult}
 use Rattle.green_cli.specs.declared.fault.Fault.{Fault}
 use Rattle.green_cli.specs.declared.outcome.Report.{Report}
 
--- one right answer for each query of each executor, in order; each slice was given this budget
-abbrev pub AreRight : ℕ → List (List PlainCondition) → List (List Plain) → Type 0
-AreRight budget session answers =
-    AllZip (λ queries script. AllZip (λ q answer. IsRightAnswer budget q answer) queries script) session answers
-
 -- for each query the budget is at least the room of the key of each slice that was asked
 abbrev pub SufficesFor : ℕ → Report → Type 0
 SufficesFor budget report =
     AllZip (λ queries script. AllZip (λ q answer. Suffices budget q answer) queries script) report.session
     report.answers
 
--- The session was answered: the input, read to its end, spells the session of the report; each of its queries has a
--- right answer there; and the text of the answers is what was written.
+-- The session was answered: the input, read to its end, spells the session of the report; the report is right, for a
+-- store that began without entries; and the text of its answers is what was written.
 pub record IsSolved {D : Type 0} (budget : ℕ) (call : Call D) : Type 0 where
   pub input : InputWasRead call.source call.report.session
-  pub answers : AreRight budget call.report.session call.report.answers
+  pub report : IsRightReport budget call.report
   pub result : WritesResult (answers_text call.report.session call.report.answers) call
 
 -- why `solve` refuses: no session can be had

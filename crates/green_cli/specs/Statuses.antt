@@ -5,9 +5,9 @@ use Rattle.outside.specs.Bytes.{Appends, AppendsFront}
 use Rattle.outside.specs.Counts.{Rose}
 use Rattle.outside.specs.States.{SinkState}
 use Rattle.lin_text.specs.declared.fault.SessionKind.TheVariants as kind
-use Rattle.pipeline.specs.declared.answer.Plain.{Plain}
-use Rattle.pipeline.specs.declared.answer.Verdict.{Verdict}
-use Rattle.pipeline.specs.declared.answer.Verdict.TheVariants.{Sat, UnsatAtom, UnsatSlice, Unknown}
+use Rattle.pipeline.specs.declared.answers.Answer.{Answer}
+use Rattle.pipeline.specs.declared.answers.Verdict.{Verdict}
+use Rattle.pipeline.specs.declared.answers.Verdict.TheVariants.{Sat, UnsatAtom, UnsatSlice, Unknown}
 use Rattle.green_cli.specs.Call.{Call, Change}
 use Rattle.green_cli.specs.Lines.{line_of}
 use Rattle.green_cli.specs.declared.fault.Fault.{Fault}
@@ -39,7 +39,7 @@ is_unknown (UnsatSlice slice) = false
 is_unknown (Unknown slice) = true
 
 -- some query was left undecided
-abbrev pub has_unknown : List (List Plain) → Bool
+abbrev pub has_unknown : List (List Answer) → Bool
 has_unknown answers = list_any (λ script. list_any (λ answer. is_unknown answer.verdict) script) answers
 
 -- the status of a command that was done and whose result was written
@@ -68,6 +68,9 @@ status_of TooLong = 18
 pub record IsEmpty (report : Report) : Type 0 where
   pub session : report.session ≡ []
   pub answers : report.answers ≡ []
+  pub log : report.log ≡ []
+  pub entries : report.entries ≡ []
+  pub saved : report.saved ≡ 0
 
 -- the fault's line went to the sink, and its status is the answer
 pub record WritesFault (fault : Fault) (sink : Change SinkState) (status : ℕ) : Type 0 where

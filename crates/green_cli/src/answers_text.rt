@@ -1,27 +1,26 @@
 //! Writing the answers to a session.
-ghost use Rattle.std.specs.Prelude.{◌≡◌, ◌++◌, ◌+◌, ◌<◌, ◌^◌, ℕ, length, IfOk, OnOk, decimal};
+ghost use Rattle.std.specs.Prelude.{◌≡◌, ◌++◌, ◌+◌, length, IfOk, OnOk, codes, decimal};
 ghost use Rattle.lin_text.specs.Spelling.{line};
-ghost use Rattle.green_cli.specs.AnswersText.{answers_text, executors_text, script_text, answer_text, verdict_text};
-ghost use Rattle.green_cli.specs.AnswersText.{model_text, value_text, parts_text, part_text, new_text, solved_of};
-ghost use Rattle.green_cli.specs.AnswersText.{solved_in, solved_count, solved_in_all, HaveAnswers};
+ghost use Rattle.green_cli.specs.AnswersText.{HaveAnswers, answer_text, answers_text, executors_text, model_text};
+ghost use Rattle.green_cli.specs.AnswersText.{part_text, parts_text, saved_text, script_text, value_text, verdict_text};
 
+use cert_check::{Reply, Saved};
 use lin_model::{Condition, Script, Session, Var};
 use lin_text::{push_integer, push_number, push_str};
 use outside::NoMemory;
-use pipeline::{Plain, PlainPart, Verdict};
+use pipeline::{Answer, Verdict};
 use sqlite_items::Items;
 use std::alloc::Global;
 
-/// The text of the answers: a line that begins it, for each executor a line and a line for each of its
-/// queries, and a line that ends it.
+/// The text of the answers: a line that begins it, for each executor a line and a line for each of its queries, and a
+/// line that ends it.
 #[tactic(auto, unfolding(crate::specs::AnswersText::answers_text))]
 pub fn write_answers(
     alloc: Global,
     session: &Session,
-    answers: &[Items<Plain>],
+    answers: &[Items<Answer>],
 ) -> Result<Vec<u8>, NoMemory>
-    requires shape { HaveAnswers session.now answers.now }
-    requires places { solved_in_all answers.now < 2 ^ 64 }
+    requires { HaveAnswers session.now answers.now }
     ensures { IfOk result (λ text. text.items ≡ answers_text session.now answers.now) }
 {
     let mut out = Vec::new(alloc);
@@ -34,68 +33,44 @@ pub fn write_answers(
 fn push_executors(
     out: &mut Vec<u8>,
     executors: &[Script],
-    scripts: &[Items<Plain>],
+    scripts: &[Items<Answer>],
 ) -> Result<(), NoMemory>
-    requires shape { HaveAnswers executors.now scripts.now }
-    requires places { solved_in_all scripts.now < 2 ^ 64 }
-    ensures { OnOk result (out.new.items ≡ out.old.items ++ executors_text 0 executors.now scripts.now) }
+    requires { HaveAnswers executors.now scripts.now }
+    ensures { OnOk result (out.new.items ≡ out.old.items ++ executors_text executors.now scripts.now) }
 {
-    let mut place = 0;
     for (i, executor) in executors.iter().enumerate() {
         push_str(out, "executor\n")?;
-        place = push_script(out, place, executor.queries(), scripts[i].as_slice())?;
+        push_script(out, executor.queries(), scripts[i].as_slice())?;
     }
     Ok(())
 }
 
-/// Adds a line for each answer. `place` parts were solved before them; it answers how many were up to their end.
-fn push_script(
-    out: &mut Vec<u8>,
-    place: u64,
-    queries: &[Condition],
-    answers: &[Plain],
-) -> Result<u64, NoMemory>
-    requires shape { length queries.now ≡ length answers.now }
-    requires places { place + solved_count answers.now < 2 ^ 64 }
-    ensures text { OnOk result (out.new.items ≡ out.old.items ++ script_text place queries.now answers.now) }
-    ensures next { IfOk result (λ next. next ≡ place + solved_count answers.now) }
+/// Adds a line for each answer.
+fn push_script(out: &mut Vec<u8>, queries: &[Condition], answers: &[Answer]) -> Result<(), NoMemory>
+    requires { length queries.now ≡ length answers.now }
+    ensures { OnOk result (out.new.items ≡ out.old.items ++ script_text queries.now answers.now) }
 {
-    let mut next = place;
     for (i, query) in queries.iter().enumerate() {
-        next = push_line(out, next, query, &answers[i])?;
+        push_line(out, query, &answers[i])?;
     }
-    Ok(next)
+    Ok(())
 }
 
-/// Adds the line of one answer, and answers how many parts were solved up to its end.
-fn push_line(
-    out: &mut Vec<u8>,
-    place: u64,
-    query: &Condition,
-    answer: &Plain,
-) -> Result<u64, NoMemory>
-    requires { place + solved_in answer.now.parts < 2 ^ 64 }
-    ensures text { OnOk result (out.new.items ≡ out.old.items ++ line (answer_text place query.now answer.now)) }
-    ensures next { IfOk result (λ next. next ≡ place + solved_in answer.now.parts) }
+/// Adds the line of one answer.
+fn push_line(out: &mut Vec<u8>, query: &Condition, answer: &Answer) -> Result<(), NoMemory>
+    ensures { OnOk result (out.new.items ≡ out.old.items ++ line (answer_text query.now answer.now)) }
 {
-    let next = push_answer(out, place, query, answer)?;
+    push_answer(out, query, answer)?;
     out.push(b'\n')?;
-    Ok(next)
+    Ok(())
 }
 
 #[tactic(auto, unfolding(crate::specs::AnswersText::answer_text))]
-fn push_answer(
-    out: &mut Vec<u8>,
-    place: u64,
-    query: &Condition,
-    answer: &Plain,
-) -> Result<u64, NoMemory>
-    requires { place + solved_in answer.now.parts < 2 ^ 64 }
-    ensures text { OnOk result (out.new.items ≡ out.old.items ++ answer_text place query.now answer.now) }
-    ensures next { IfOk result (λ next. next ≡ place + solved_in answer.now.parts) }
+fn push_answer(out: &mut Vec<u8>, query: &Condition, answer: &Answer) -> Result<(), NoMemory>
+    ensures { OnOk result (out.new.items ≡ out.old.items ++ answer_text query.now answer.now) }
 {
     push_verdict(out, query.vars(), &answer.verdict)?;
-    push_parts(out, place, answer.parts.as_slice())
+    push_parts(out, answer.parts.as_slice())
 }
 
 #[tactic(auto, unfolding(crate::specs::AnswersText::verdict_text))]
@@ -142,42 +117,63 @@ fn push_value(out: &mut Vec<u8>, var: &Var, value: i64) -> Result<(), NoMemory>
     push_integer(out, value)
 }
 
-/// Adds a mark for each part, and answers how many parts were solved up to the last.
-fn push_parts(out: &mut Vec<u8>, place: u64, parts: &[PlainPart]) -> Result<u64, NoMemory>
-    requires { place + solved_in parts.now < 2 ^ 64 }
-    ensures text { OnOk result (out.new.items ≡ out.old.items ++ parts_text place parts.now) }
-    ensures next { IfOk result (λ next. next ≡ place + solved_in parts.now) }
+/// Adds a mark for each part.
+fn push_parts(out: &mut Vec<u8>, parts: &[Reply]) -> Result<(), NoMemory>
+    ensures { OnOk result (out.new.items ≡ out.old.items ++ parts_text parts.now) }
 {
-    let mut next = place;
     for part in parts {
-        next = push_part(out, next, part)?;
+        push_part(out, part)?;
     }
-    Ok(next)
+    Ok(())
 }
 
 #[tactic(auto, unfolding(crate::specs::AnswersText::part_text))]
-fn push_part(out: &mut Vec<u8>, place: u64, part: &PlainPart) -> Result<u64, NoMemory>
-    requires { place + solved_of part.now < 2 ^ 64 }
-    ensures text { OnOk result (out.new.items ≡ out.old.items ++ part_text place part.now) }
-    ensures next { IfOk result (λ next. next ≡ place + solved_of part.now) }
+fn push_part(out: &mut Vec<u8>, part: &Reply) -> Result<(), NoMemory>
+    ensures { OnOk result (out.new.items ≡ out.old.items ++ part_text part.now) }
 {
     match part {
-        PlainPart::Solved => {
-            push_new(out, place)?;
-            Ok(place + 1)
-        }
-        PlainPart::Open(_) => {
-            push_str(out, " [spent]")?;
-            Ok(place)
-        }
+        Reply::Hit { place, .. } => push_hit(out, *place),
+        Reply::Solved { place, saved, .. } => push_new(out, *place, *saved),
+        Reply::Unkept { saved, .. } => push_unkept(out, *saved),
+        Reply::Spent { .. } => push_str(out, " [spent]"),
     }
 }
 
-#[tactic(auto, unfolding(crate::specs::AnswersText::new_text))]
-fn push_new(out: &mut Vec<u8>, place: u64) -> Result<(), NoMemory>
-    ensures { OnOk result (out.new.items ≡ out.old.items ++ new_text place) }
+/// Adds the mark of an entry that was found at this place.
+fn push_hit(out: &mut Vec<u8>, place: u32) -> Result<(), NoMemory>
+    ensures { OnOk result (out.new.items ≡ out.old.items ++ (codes " [hit " ++ decimal place ++ codes "]")) }
+{
+    push_str(out, " [hit ")?;
+    push_number(out, u64::from(place))?;
+    push_str(out, "]")
+}
+
+/// Adds the mark of an entry that was kept at this place.
+fn push_new(out: &mut Vec<u8>, place: u32, saved: Saved) -> Result<(), NoMemory>
+    ensures { OnOk result (out.new.items ≡ out.old.items ++ (codes " [new " ++ decimal place ++ saved_text saved)) }
 {
     push_str(out, " [new ")?;
-    push_number(out, place)?;
-    push_str(out, "]")
+    push_number(out, u64::from(place))?;
+    push_str(out, saved_words(saved))
+}
+
+/// Adds the mark of an entry for which there was no room.
+fn push_unkept(out: &mut Vec<u8>, saved: Saved) -> Result<(), NoMemory>
+    ensures { OnOk result (out.new.items ≡ out.old.items ++ (codes " [unkept" ++ saved_text saved)) }
+{
+    push_str(out, " [unkept")?;
+    push_str(out, saved_words(saved))
+}
+
+/// What the mark of an entry says of the journal, up to its end.
+#[tactic(auto, unfolding(crate::specs::AnswersText::saved_text))]
+fn saved_words(saved: Saved) -> &'static str
+    ensures { result.now ≡ saved_text saved }
+{
+    match saved {
+        Saved::At(_) => " saved]",
+        Saved::Fault => " fault]",
+        Saved::Full => " full]",
+        Saved::Off => "]",
+    }
 }

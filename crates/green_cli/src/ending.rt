@@ -9,7 +9,7 @@ use crate::outcome::{Outcome, Report};
 use crate::refusal::write_fault;
 use lin_model::Session;
 use outside::{Disk, Sink};
-use pipeline::{Plain, Verdict};
+use pipeline::{Answer, Verdict};
 use sqlite_items::Items;
 use std::alloc::Global;
 
@@ -54,12 +54,22 @@ pub fn refuse<K: Sink, D: Disk>(
 {
     Outcome {
         status: write_fault(alloc, fault, sink),
-        report: Report {
-            session: Session::new(Vec::new(alloc)),
-            answers: Items::new(alloc),
-        },
+        report: empty_report(alloc),
         disk,
         other,
+    }
+}
+
+/// The report of a call that was refused.
+fn empty_report(alloc: Global) -> Report
+    ensures { IsEmpty result }
+{
+    Report {
+        session: Session::new(Vec::new(alloc)),
+        answers: Items::new(alloc),
+        log: Items::new(alloc),
+        entries: Items::new(alloc),
+        saved: 0,
     }
 }
 
@@ -75,7 +85,7 @@ fn status_of_run(report: &Report) -> u8
 }
 
 /// Whether some query was left undecided.
-fn leaves_unknown(answers: &[Items<Plain>]) -> bool
+fn leaves_unknown(answers: &[Items<Answer>]) -> bool
     ensures { result ≡ has_unknown answers.now }
 {
     answers
@@ -83,7 +93,7 @@ fn leaves_unknown(answers: &[Items<Plain>]) -> bool
         .any(|script| script_leaves_unknown(script.as_slice()))
 }
 
-fn script_leaves_unknown(answers: &[Plain]) -> bool
+fn script_leaves_unknown(answers: &[Answer]) -> bool
     ensures { result ≡ list_any (λ answer. is_unknown answer.verdict) answers.now }
 {
     answers.iter().any(|answer| is_undecided(&answer.verdict))

@@ -9,6 +9,7 @@ mod input;
 mod laws;
 mod outcome;
 mod refusal;
+mod report;
 mod run;
 mod solve;
 mod words;

@@ -1,17 +1,24 @@
 //! What a call hands back.
 
+use cert_check::{Entry, Event, Shared};
 use lin_model::Session;
-use pipeline::Plain;
+use pipeline::Answer;
 use sqlite_items::Items;
 
-/// What a call found: the session that it read, and one answer for each query of each executor. Both
-/// are empty where the call was refused.
-#[derive(Debug, Drop)]
+/// What a call found: the session that it read, one answer for each query of each executor, and the store that they
+/// came from. All is empty where the call was refused.
+#[derive(Drop)]
 pub struct Report {
     /// What each executor asked, as it was read.
     pub session: Session,
     /// For each executor its answers, in the order of its queries.
-    pub answers: Items<Items<Plain>>,
+    pub answers: Items<Items<Answer>>,
+    /// What happened to the flights of the store, in order.
+    pub log: Items<Event>,
+    /// The entries of the store as the call ended, in the order of their places.
+    pub entries: Items<Shared<Entry>>,
+    /// How many replies tell that their entry was saved.
+    pub saved: u64,
 }
 
 /// The end of a call: its status, its report, and the disks that were handed in.

@@ -42,9 +42,9 @@ pub fn green<S: Source, K: Sink, D: Disk + Send, G: Gate + Sync>(
 
 /// Does a command, and hands the disks back as they are. The statuses of `solve`:
 ///
-/// 0: the whole input spells the session of the report; each answer is right and tells sat or unsat; the sink took the
-/// whole text of the answers. 3: the same, but some answer is `Unknown`. 13: the sink failed and took a front of the
-/// text.
+/// 0: the whole input spells the session of the report; each answer is right for the log and the entries there, and
+/// tells sat or unsat; the sink took the whole text of the answers. 3: the same, but some answer is `Unknown`. 13: the
+/// sink failed and took a front of the text.
 ///
 /// The others write a line of their own, or a front of it where the sink fails, and leave the report empty. 11: the
 /// input is no session; the line tells its first fault. 12: the source failed. 16: memory ran out. 18: more than

@@ -3,15 +3,16 @@ ghost use Rattle.std.specs.Prelude.{◌≡◌, ◌+◌, MatchResult, IfOk};
 ghost use Rattle.green_cli.specs.AnswersText.{answers_text};
 ghost use Rattle.green_cli.specs.Call.{change};
 ghost use Rattle.green_cli.specs.Input.{InputWasRead, TakesAtMost, max_input, session_cause};
-ghost use Rattle.green_cli.specs.Solve.{AreRight, Solves};
+ghost use Rattle.green_cli.specs.Answered.{IsRightReport};
+ghost use Rattle.green_cli.specs.Solve.{Solves};
 ghost use Rattle.green_cli.specs.Statuses.{Ends, run_status};
 
-use crate::answering::answer_session;
 use crate::answers_text::write_answers;
 use crate::ending::{finish, refuse};
 use crate::fault::Fault;
 use crate::input::take_session;
 use crate::outcome::{Outcome, Report};
+use crate::report::report_session;
 use crate::words::Budget;
 use lin_model::Session;
 use outside::{Disk, NoMemory, Sink, Source};
@@ -19,7 +20,8 @@ use pipeline::sufficient_budgets_decide;
 use session_text::spelled_has_no_fault;
 use std::alloc::Global;
 
-/// Reads a session from the source, answers each query with this budget for each slice, and writes the answers.
+/// Reads a session from the source, answers its queries over a store that begins without entries, with this budget for
+/// each slice, and writes the answers.
 pub fn solve<S: Source, K: Sink, D: Disk>(
     alloc: Global,
     budget: Budget,
@@ -39,47 +41,38 @@ pub fn solve<S: Source, K: Sink, D: Disk>(
 {
     spelled_has_no_fault();
     sufficient_budgets_decide();
-    match answer_source(alloc, budget, source) {
-        Ok(answered) => finish_answered(answered, sink, disk, other),
+    match solve_source(alloc, budget, source) {
+        Ok(solved) => finish_solved(solved, sink, disk, other),
         Err(fault) => refuse(alloc, fault, sink, disk, other),
     }
 }
 
 /// A report and its text.
-struct Answered {
+struct Solved {
     report: Report,
     text: Vec<u8>,
 }
 
 /// Writes the text of a report, and ends the call.
-fn finish_answered<K: Sink, D: Disk>(
-    answered: Answered,
-    sink: &mut K,
-    disk: D,
-    other: D,
-) -> Outcome<D>
-    ensures ends { Ends answered.text.items (run_status answered.report)
+fn finish_solved<K: Sink, D: Disk>(solved: Solved, sink: &mut K, disk: D, other: D) -> Outcome<D>
+    ensures ends { Ends solved.text.items (run_status solved.report)
         (change (K.state sink.old) (K.state sink.new)) result.status }
-    ensures report { result.report ≡ answered.report }
+    ensures report { result.report ≡ solved.report }
     ensures disk { result.disk ≡ disk }
     ensures other { result.other ≡ other }
 {
-    let Answered { report, text } = answered;
+    let Solved { report, text } = solved;
     finish(report, text.as_slice(), sink, disk, other)
 }
 
 /// Reads a session from the source and answers it.
-fn answer_source<S: Source>(
-    alloc: Global,
-    budget: Budget,
-    source: &mut S,
-) -> Result<Answered, Fault>
+fn solve_source<S: Source>(alloc: Global, budget: Budget, source: &mut S) -> Result<Solved, Fault>
     ensures input { MatchResult result
-        (λ answered. InputWasRead (change (S.state source.old) (S.state source.new)) answered.report.session)
+        (λ solved. InputWasRead (change (S.state source.old) (S.state source.new)) solved.report.session)
         (session_cause (change (S.state source.old) (S.state source.new))) }
-    ensures right { IfOk result (λ answered. AreRight budget answered.report.session answered.report.answers) }
-    ensures text { IfOk result (λ answered.
-        answered.text.items ≡ answers_text answered.report.session answered.report.answers) }
+    ensures right { IfOk result (λ solved. IsRightReport budget solved.report) }
+    ensures text { IfOk result (λ solved.
+        solved.text.items ≡ answers_text solved.report.session solved.report.answers) }
     ensures bounded { TakesAtMost (max_input + 1) (change (S.state source.old) (S.state source.new)) }
 {
     let session = take_session(alloc, source)?;
@@ -87,14 +80,13 @@ fn answer_source<S: Source>(
 }
 
 /// Answers a session, and spells the answers.
-fn answer(alloc: Global, budget: Budget, session: Session) -> Result<Answered, NoMemory>
-    ensures session { IfOk result (λ answered. answered.report.session ≡ session) }
-    ensures right { IfOk result (λ answered. AreRight budget answered.report.session answered.report.answers) }
-    ensures text { IfOk result (λ answered.
-        answered.text.items ≡ answers_text answered.report.session answered.report.answers) }
+fn answer(alloc: Global, budget: Budget, session: Session) -> Result<Solved, NoMemory>
+    ensures session { IfOk result (λ solved. solved.report.session ≡ session) }
+    ensures right { IfOk result (λ solved. IsRightReport budget solved.report) }
+    ensures text { IfOk result (λ solved.
+        solved.text.items ≡ answers_text solved.report.session solved.report.answers) }
 {
-    let answers = answer_session(alloc, budget, &session)?;
-    let text = write_answers(alloc, &session, answers.as_slice())?;
-    let report = Report { session, answers };
-    Ok(Answered { report, text })
+    let report = report_session(alloc, budget, session)?;
+    let text = write_answers(alloc, &report.session, report.answers.as_slice())?;
+    Ok(Solved { report, text })
 }

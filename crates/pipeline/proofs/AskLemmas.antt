@@ -1,208 +1,178 @@
--- Asking one more slice.
-use Rattle.std.proofs.Common.{◌≡◌, ℕ, zero, suc, ◌<◌, ◌≤◌, ℤ, Option, Some, None, MatchOption, IsSomeAnd, List, [], ◌∷◌}
-use Rattle.std.proofs.Common.{◌++◌, length, get_or, slice_get, take, drop, Vec, Global, arith, refl, sym, subst, ap}
-use Rattle.std.proofs.Common.{◌∙◌}
-use Rattle.std.specs.List.{All, AllPairs, AllZip, Contains, slice_index}
-use Rattle.std.specs.Option.{unwrap_or}
-use Rattle.std.specs.Vec.{with_items}
-use Rattle.std.proofs.Math.Seq.{take-append_seam}
-use Rattle.std.proofs.lemmas.List.{get_or_default}
-use Rattle.std.proofs.lemmas.List.Elements.{All-nil, All-cons, All-push}
-use Rattle.std.proofs.lemmas.Slice.Zip.{AllZip-long}
-use Rattle.lin_model.specs.Terms.{value_at}
-use Rattle.lin_model.specs.Conditions.{PlainCondition, Fits}
-use Rattle.lin_model.specs.Key.{key_width}
-use Rattle.slicer.specs.Slices.{PlainSlice, AreClasses, least as least_of}
-use Rattle.canoniser.specs.Solutions.{point_of}
-use Rattle.refutation.specs.Tree.{PlainTree}
+-- Asking one slice after another, up to and with the first whose reply has a core.
+use Rattle.std.proofs.Common.{◌≡◌, ℕ, zero, suc, ◌+◌, ◌<◌, ◌≤◌, true, false, IsSomeAnd, List, [], ◌∷◌, ◌++◌}
+use Rattle.std.proofs.Common.{length, get_or, slice_get, take, drop, map, inl, inr, arith, refl, sym, subst, ap}
+use Rattle.std.proofs.Common.{◌∙◌, Result, Ok, Err, OnErr}
+use Rattle.std.proofs.lemmas.List.{drop_more, length-map, length-take-le, map_more, take-map}
+use Rattle.std.proofs.lemmas.List.{get_or-map, take-append-drop}
+use Rattle.std.proofs.lemmas.List.Elements.{All-contains, All-head, All-tail, Contains-push}
+use Rattle.lin_model.specs.KeyAtom.{PlainKeyAtom}
+use Rattle.lin_model.specs.Lists.{All-at, Found-from}
+use Rattle.cert_check.specs.declared.reply.Reply.{Reply}
+use Rattle.cert_check.specs.Asks.{Asks, AsksAll}
+use Rattle.cert_check.specs.Calls.{FailsInVain}
+use Rattle.cert_check.specs.Replies.{has_core}
+use Rattle.cert_check.specs.Runs.{AsksJoin, EndsInVain}
+use Rattle.cert_check.specs.Seats.{SeatState}
 use Rattle.pipeline.specs.declared.slice_keys.SliceKey.{SliceKey}
-use Rattle.pipeline.specs.declared.answer.PlainPart.{PlainPart}
-use Rattle.pipeline.specs.declared.answer.PlainPart.TheVariants.{Solved, Open}
-use Rattle.pipeline.specs.Answers.{IsModelOf, IsSpentOn, IsOpen, IsFirstOpen}
-use Rattle.pipeline.specs.Asking.{KeyLeaves, IsMet, IsAsked}
-use Rattle.pipeline.proofs.KeyedLemmas.{zip_push}
+use Rattle.pipeline.specs.Answers.{NoneHasCore, OnlyLastHasCore}
+use Rattle.pipeline.specs.Asking.{EndsAtCore, AsksUpToCore, StopsInVain, keys_to_ask}
 
--- ---- look-ups behind a list
+-- ---- what was asked
 
-get-before : {X : Type 0} (xs : List X) (y : X) (i : ℕ) (x : X) → slice_get xs i ≡ Some x → slice_get (xs ++ y ∷ []) i
-    ≡ Some x
-get-before {X} [] y i x e = absurd (cc)
-get-before {X} (z ∷ xs) y zero x e = e
-get-before {X} (z ∷ xs) y (suc i) x e = get-before xs y i x e
+-- there is one reply for each key
+asked_long : (budget : ℕ) (keys : List (List PlainKeyAtom)) (replies : List Reply) (old new : SeatState)
+    → AsksAll budget keys replies old new → length replies ≡ length keys
+asked_long budget [] [] old new asks = refl
+asked_long budget [] (reply ∷ replies) old new asks = absurd asks
+asked_long budget (key ∷ keys) [] old new asks = absurd asks
+asked_long budget (key ∷ keys) (reply ∷ replies) old new asks =
+    let rest = asked_long budget keys replies asks.0 new asks.2 in omega arith
 
-pub get-last : {X : Type 0} (xs : List X) (y : X) → slice_get (xs ++ y ∷ []) (length xs) ≡ Some y
-get-last {X} [] y = refl
-get-last {X} (z ∷ xs) y = get-last xs y
+-- as many as were asked
+asked_count : (budget : ℕ) (slices : List SliceKey) (n : ℕ) (replies : List Reply) (old new : SeatState)
+    → n ≤ length slices → AsksAll budget (take n (keys_to_ask slices)) replies old new → length replies ≡ n
+asked_count budget slices n replies old new within asks =
+    let long : length (keys_to_ask slices) ≡ length slices = length-map slices (λ (slice : SliceKey). slice.key) in
+    let few : n ≤ length (keys_to_ask slices) = omega arith in
+    asked_long budget (take n (keys_to_ask slices)) replies old new asks
+    ∙ length-take-le n (keys_to_ask slices) few
 
--- ---- the first open part
+-- the keys up to the next slice
+one_key_more : (slices : List SliceKey) (i : ℕ) (slice : SliceKey) → i < length slices
+    → slice ≡ get_or slices i slice → take (i + 1) (keys_to_ask slices) ≡ take i (keys_to_ask slices) ++ slice.key ∷ []
+one_key_more slices i slice lt is =
+    take-map (λ (s : SliceKey). s.key) (i + 1) slices
+    ∙ (map_more (λ (s : SliceKey). s.key) slices i slice lt
+    ∙ (ap (λ (s : SliceKey). map (λ (t : SliceKey). t.key) (take i slices) ++ s.key ∷ []) (sym is)
+    ∙ ap (λ (keys : List (List PlainKeyAtom)). keys ++ slice.key ∷ [])
+    (sym (take-map (λ (s : SliceKey). s.key) i slices))))
 
-first_stays : (parts : List PlainPart) (part : PlainPart) (s : ℕ) → IsFirstOpen parts s
-    → IsFirstOpen (parts ++ part ∷ []) s
-first_stays parts part s h = record {
-  here = of (slice_get parts s) refl h.here;
-  before = λ i lt. get-before parts part i Solved (h.before i lt);
-}
-  where
-    of : (o : Option PlainPart) → slice_get parts s ≡ o → IsSomeAnd o IsOpen
-        → IsSomeAnd (slice_get (parts ++ part ∷ []) s) IsOpen
-    of None e k = absurd k
-    of (Some p) e k = subst (λ (o : Option PlainPart). IsSomeAnd o IsOpen) (sym (get-before parts part s p e)) k
+-- the keys from a slice on
+keys_behind : (slices : List SliceKey) (i : ℕ) (slice : SliceKey) → i < length slices → slice ≡ get_or slices i slice
+    → drop i (keys_to_ask slices) ≡ slice.key ∷ drop (i + 1) (keys_to_ask slices)
+keys_behind slices i slice lt is =
+    let long : length (keys_to_ask slices) ≡ length slices = length-map slices (λ (s : SliceKey). s.key) in
+    let within : i < length (keys_to_ask slices) = omega arith in
+    drop_more (keys_to_ask slices) i [] within
+    ∙ ap (λ (key : List PlainKeyAtom). key ∷ drop (i + 1) (keys_to_ask slices))
+    (get_or-map (λ (s : SliceKey). s.key) slices i slice [] lt ∙ ap (λ (s : SliceKey). s.key) (sym is))
 
-get_solved : (parts : List PlainPart) (i : ℕ) → All (λ part. part ≡ Solved) parts → i < length parts → slice_get parts i
-    ≡ Some Solved
-get_solved [] i all lt = absurd (omega arith)
-get_solved (p ∷ parts) zero all lt = ap Some (all 0 p (omega arith))
-get_solved (p ∷ parts) (suc i) all lt = get_solved parts i (λ k d l. all (suc k) d (omega (arith, l)))
-    (omega (arith, lt))
+-- one slice more was asked, with the budget of the first
+pub asked_more : AsksJoin → (budget now : ℕ) (slices : List SliceKey) (i : ℕ) (slice : SliceKey)
+    (replies : List Reply) (reply : Reply) (all : List Reply) (old mid new : SeatState) → now ≡ budget
+    → i < length slices → slice ≡ get_or slices i slice → all ≡ replies ++ reply ∷ []
+    → AsksAll budget (take i (keys_to_ask slices)) replies old mid → Asks now slice.key reply mid new
+    → AsksAll budget (take (i + 1) (keys_to_ask slices)) all old new
+asked_more join budget now slices i slice replies reply all old mid new same lt is pushed before asks =
+    subst (λ (rs : List Reply). AsksAll budget (take (i + 1) (keys_to_ask slices)) rs old new) (sym pushed)
+    (subst (λ (keys : List (List PlainKeyAtom)). AsksAll budget keys (replies ++ reply ∷ []) old new)
+    (sym (one_key_more slices i slice lt is))
+    (join budget (take i (keys_to_ask slices)) (slice.key ∷ []) replies (reply ∷ []) old mid new before
+    (new, subst (λ (b : ℕ). Asks b slice.key reply mid new) same asks, refl)))
 
-first_comes : (parts : List PlainPart) (tree : PlainTree) (s : ℕ) → s ≡ length parts → All (λ part. part ≡ Solved) parts
-    → IsFirstOpen (parts ++ Open tree ∷ []) s
-first_comes parts tree s is all = record {
-  here = subst (λ (o : Option PlainPart). IsSomeAnd o IsOpen)
-      (sym (ap (slice_get (parts ++ Open tree ∷ [])) is ∙ get-last parts (Open tree))) tt;
-  before = λ i lt. get-before parts (Open tree) i Solved (get_solved parts i all (omega (arith, lt, is)));
-}
+-- ---- the first core
 
--- ---- one more slice
+-- a core behind replies without one is the last reply
+pub core_is_last : (replies : List Reply) (reply : Reply) → NoneHasCore replies
+    → OnlyLastHasCore (replies ++ reply ∷ [])
+core_is_last [] reply none zero core = omega arith
+core_is_last [] reply none (suc s) core = absurd core
+core_is_last (r ∷ replies) reply none zero core =
+    let not_one : has_core r ≡ false = All-head (λ r. has_core r ≡ false) r replies none in absurd (cc)
+core_is_last (r ∷ replies) reply none (suc s) core =
+    let rest = core_is_last replies reply (All-tail (λ r. has_core r ≡ false) r replies none) s core in omega arith
 
--- the point of variables that kept their values
-kept_point : (back : List ℕ) (old new : List ℤ) →
-    ((k : ℕ) (d : ℕ) → k < length back → value_at new (get_or back k d) ≡ value_at old (get_or back k d))
-    → point_of back new ≡ point_of back old
-kept_point [] old new same = refl
-kept_point (v ∷ back) old new same = rw (
-  same 0 v (omega arith),
-  kept_point back old new (λ k d lt. same (suc k) d (omega (arith, lt))),
-) refl
+-- where the last reply is the first with a core, the asking has come to its end
+pub ends_with_core : (budget : ℕ) (slices : List SliceKey) (i : ℕ) (replies : List Reply) (reply : Reply)
+    (all : List Reply) (old new : SeatState) → i < length slices → all ≡ replies ++ reply ∷ []
+    → AsksAll budget (take (i + 1) (keys_to_ask slices)) all old new → NoneHasCore replies → has_core reply ≡ true
+    → AsksUpToCore budget slices all old new
+ends_with_core budget slices i replies reply all old new lt pushed asks none core =
+    let few : i + 1 ≤ length slices = omega arith in
+    let count : length all ≡ i + 1 = asked_count budget slices (i + 1) all old new few asks in
+    record {
+      ends = subst (λ (rs : List Reply). EndsAtCore slices rs) (sym pushed) (record {
+        few = omega (arith, ap (λ (rs : List Reply). length rs) pushed);
+        core_last = core_is_last replies reply none;
+        all = λ no_core.
+            let not_one : has_core reply ≡ false =
+            All-contains (λ r. has_core r ≡ false) (replies ++ reply ∷ []) reply no_core
+            (Contains-push replies reply) in
+            absurd (cc);
+      });
+      asks = subst (λ (n : ℕ). AsksAll budget (take n (keys_to_ask slices)) all old new) (sym count) asks;
+    }
 
--- the point of variables that were given values
-given_point : (back : List ℕ) (values point : List ℤ) → length point ≡ length back
-    → ((v : ℕ) → v < length back → value_at values (get_or back v 0) ≡ value_at point v) → point_of back values ≡ point
-given_point [] values [] long placed = refl
-given_point [] values (n ∷ point) long placed = absurd (omega (arith, long))
-given_point (v ∷ back) values [] long placed = absurd (omega (arith, long))
-given_point (v ∷ back) values (n ∷ point) long placed = rw (
-  placed 0 (omega arith),
-  given_point back values point (omega (arith, long))
-      (λ u lt. placed (suc u) (omega (arith, lt))),
-) refl
-
--- no variable of the slice is one of the slices before
-abbrev pub AreOthers : List SliceKey → SliceKey → Type 0
-AreOthers asked k = All (λ j. (v : ℕ) → Contains j.back v → Contains k.back v → ⊥) asked
-
--- what was left of a slice stays, where another slice is given values
-part_stays : (budget : ℕ) (old new : List ℤ) (j k : SliceKey) (part : PlainPart)
-    → ((v : ℕ) → Contains j.back v → Contains k.back v → ⊥) →
-    ((w : ℕ) → (Contains k.back w → ⊥) → value_at new w ≡ value_at old w) → KeyLeaves budget old j part
-    → KeyLeaves budget new j part
-part_stays budget old new j k Solved apart kept met =
-    subst (IsModelOf budget j.key) (sym (kept_point j.back old new
-    (λ n d lt. kept (get_or j.back n d)
-    (λ has. apart (get_or j.back n d) (n, lt, get_or_default j.back n (get_or j.back n d) d lt) has)))) met
-part_stays budget old new j k (Open tree) apart kept spent = spent
-
--- the same of each slice so far
-leaves_stay : (budget : ℕ) (old new : List ℤ) (asked : List SliceKey) (parts : List PlainPart) (k : SliceKey)
-    → AreOthers asked k → ((w : ℕ) → (Contains k.back w → ⊥) → value_at new w ≡ value_at old w)
-    → AllZip (KeyLeaves budget old) asked parts → AllZip (KeyLeaves budget new) asked parts
-leaves_stay budget old new [] [] k others kept leaves = tt
-leaves_stay budget old new [] (part ∷ parts) k others kept leaves = absurd leaves
-leaves_stay budget old new (j ∷ asked) [] k others kept leaves = absurd leaves
-leaves_stay budget old new (j ∷ asked) (part ∷ parts) k others kept leaves = (
-  part_stays budget old new j k part (others 0 j (omega arith)) kept leaves.0,
-  leaves_stay budget old new asked parts k (λ i d lt. others (suc i) d (omega (arith, lt))) kept leaves.1,
-)
-
--- before the first slice nothing is left
-pub none_left : (budget : ℕ) (values : List ℤ) (parts : List PlainPart) → parts ≡ []
-    → AllZip (KeyLeaves budget values) [] parts
-none_left budget values parts none = subst (AllZip (KeyLeaves budget values) []) (sym none) tt
-
--- where each slice was solved, the values meet each
-pub all_met : (budget : ℕ) (values : List ℤ) (asked : List SliceKey) (parts : List PlainPart)
-    → AllZip (KeyLeaves budget values) asked parts → All (λ part. part ≡ Solved) parts → All (IsMet budget values) asked
-all_met budget values [] parts leaves solved = All-nil (IsMet budget values)
-all_met budget values (k ∷ asked) [] leaves solved = absurd leaves
-all_met budget values (k ∷ asked) (Open tree ∷ parts) leaves solved = let open_one = solved 0 Solved (omega arith) in
+-- where no reply has a core, none is found
+no_core_there : (replies : List Reply) (s : ℕ) → NoneHasCore replies
+    → IsSomeAnd (slice_get replies s) (λ r. has_core r ≡ true) → ⊥
+no_core_there replies s none core =
+    let found = Found-from (slice_get replies s) (λ r. has_core r ≡ true) core in
+    let not_one : has_core found.value ≡ false =
+    All-at (λ r. has_core r ≡ false) replies s found.value none found.is in
+    let one : has_core found.value ≡ true = found.holds in
     absurd (cc)
-all_met budget values (k ∷ asked) (Solved ∷ parts) leaves solved =
-    All-cons (IsMet budget values) k asked leaves.0
-    (all_met budget values asked parts leaves.1 (λ i d lt. solved (suc i) d (omega (arith, lt))))
 
-pub ask_model : (budget : ℕ) (q : PlainCondition) (asked : List SliceKey) (parts : List PlainPart) (least : Option ℕ)
-    (old new : List ℤ) (k : SliceKey) (point : List ℤ) → IsAsked budget q asked parts least old → AreOthers asked k
-    → IsModelOf budget k.key point → key_width k.key ≡ length k.back → length new ≡ length old
-    → ((v : ℕ) → v < length k.back → value_at new (slice_index k.back v) ≡ value_at point v)
-    → ((w : ℕ) → (Contains k.back w → ⊥) → value_at new w ≡ value_at old w)
-    → IsAsked budget q (asked ++ k ∷ []) (parts ++ Solved ∷ []) least new
-ask_model budget q asked parts least old new k point h others model width same placed kept = record {
-  leaves = zip_push (KeyLeaves budget new) asked parts k Solved
-      (leaves_stay budget old new asked parts k others kept h.leaves) here;
-  first = first least h.first;
-  long = same ∙ h.long;
+-- the same where all were asked, and no reply has a core
+pub ends_without : (budget : ℕ) (slices : List SliceKey) (n : ℕ) (replies : List Reply) (old new : SeatState)
+    → length slices ≤ n → n ≤ length slices → AsksAll budget (take n (keys_to_ask slices)) replies old new
+    → NoneHasCore replies → AsksUpToCore budget slices replies old new
+ends_without budget slices n replies old new all within asks none =
+    let count : length replies ≡ n = asked_count budget slices n replies old new within asks in
+    record {
+      ends = record {
+        few = omega arith;
+        core_last = λ s core. absurd (no_core_there replies s none core);
+        all = λ no_core. omega arith;
+      };
+      asks = subst (λ (m : ℕ). AsksAll budget (take m (keys_to_ask slices)) replies old new) (sym count) asks;
+    }
+
+-- ---- want of memory
+
+-- what holds in any case holds after a failure
+pub on_err : {X E : Type 0} (r : Result X E) (P : Type 0) → P → OnErr r P
+on_err (Ok x) P holds = tt
+on_err (Err e) P holds = holds
+
+-- what is left to ask was not asked
+not_asked : (behind : List (List PlainKeyAtom)) (seat : SeatState) → EndsInVain behind seat seat
+not_asked [] seat = refl
+not_asked (key ∷ behind) seat = inl refl
+
+-- the first n keys were asked, and no other
+pub vain_between : (budget : ℕ) (slices : List SliceKey) (n : ℕ) (replies : List Reply) (old new : SeatState)
+    → OnlyLastHasCore replies → AsksAll budget (take n (keys_to_ask slices)) replies old new
+    → StopsInVain budget slices old new
+vain_between budget slices n replies old new only_last asks = record {
+  asks = record {
+    front = take n (keys_to_ask slices);
+    behind = drop n (keys_to_ask slices);
+    parts = sym (take-append-drop n (keys_to_ask slices));
+    replies = replies;
+    mid = new;
+    asked = asks;
+    last = not_asked (drop n (keys_to_ask slices)) new;
+  };
+  stops = record { only_last = only_last; no_more = inl refl };
 }
-  where
-    first : (o : Option ℕ) → MatchOption o (All (λ part. part ≡ Solved) parts) (IsFirstOpen parts)
-        → MatchOption o (All (λ part. part ≡ Solved) (parts ++ Solved ∷ [])) (IsFirstOpen (parts ++ Solved ∷ []))
-    first None all = All-push (λ part. part ≡ Solved) parts Solved all refl
-    first (Some s) at = first_stays parts Solved s at
 
-    here : IsMet budget new k
-    here = subst (IsModelOf budget k.key) (sym (given_point k.back new point (model.tree.one_each ∙ width) placed))
-        model
-
-pub ask_open : (budget : ℕ) (q : PlainCondition) (asked : List SliceKey) (parts : List PlainPart) (least : Option ℕ)
-    (values : List ℤ) (k : SliceKey) (tree : PlainTree) (s : ℕ) → IsAsked budget q asked parts least values
-    → IsSpentOn budget k.key tree → s ≡ length asked → IsAsked budget q (asked ++ k ∷ []) (parts ++ Open tree ∷ [])
-    (Some (unwrap_or least s)) values
-ask_open budget q asked parts least values k tree s h spent is = record {
-  leaves = zip_push (KeyLeaves budget values) asked parts k (Open tree) h.leaves spent;
-  first = first least h.first;
-  long = h.long;
+-- and the next in vain
+pub vain_at : (budget : ℕ) (slices : List SliceKey) (i : ℕ) (slice : SliceKey) (replies : List Reply)
+    (old mid new : SeatState) → i < length slices → slice ≡ get_or slices i slice
+    → AsksAll budget (take i (keys_to_ask slices)) replies old mid → FailsInVain slice.key mid new
+    → NoneHasCore replies → StopsInVain budget slices old new
+vain_at budget slices i slice replies old mid new lt is asks fails none = record {
+  asks = record {
+    front = take i (keys_to_ask slices);
+    behind = slice.key ∷ drop (i + 1) (keys_to_ask slices);
+    parts = sym (take-append-drop i (keys_to_ask slices))
+        ∙ ap (λ (keys : List (List PlainKeyAtom)). take i (keys_to_ask slices) ++ keys)
+        (keys_behind slices i slice lt is);
+    replies = replies;
+    mid = mid;
+    asked = asks;
+    last = inr fails;
+  };
+  stops = record { only_last = λ s core. absurd (no_core_there replies s none core); no_more = inr none };
 }
-  where
-    first : (o : Option ℕ) → MatchOption o (All (λ part. part ≡ Solved) parts) (IsFirstOpen parts)
-        → IsFirstOpen (parts ++ Open tree ∷ []) (unwrap_or o s)
-    first None all = first_comes parts tree s (is ∙ sym (AllZip-long (KeyLeaves budget values) asked parts h.leaves))
-        all
-    first (Some t) at = first_stays parts (Open tree) t at
-
--- ---- the slices of a query
-
--- the least variables rise with the places
-rises : (classes : List PlainSlice) (k : ℕ) (d : PlainSlice) → AllPairs (λ s t. least_of s < least_of t) classes
-    → k < length classes → k ≤ least_of (get_or classes k d)
-rises classes zero d ordered lt = omega arith
-rises classes (suc k) d ordered lt = omega
-    (arith, rises classes k d ordered (omega (arith, lt)), ordered k (suc k) d (omega arith) lt)
-
-pub few_classes : (q : PlainCondition) (classes : List PlainSlice) → Fits q.vars q.atoms → AreClasses q classes
-    → length classes ≤ 64
-few_classes q [] fits are = omega arith
-few_classes q (s ∷ classes) fits are = omega (
-  arith,
-  rises (s ∷ classes) (length classes) s are.by_least (omega arith),
-  (are.each (length classes) s (omega arith)).declared,
-  fits.few_vars,
-)
-
--- the same, by other names
-pub asked_as : (budget : ℕ) (q : PlainCondition) (asked more : List SliceKey) (parts given : List PlainPart)
-    (least next : Option ℕ) (values new : List ℤ) → IsAsked budget q asked parts least values → more ≡ asked → given
-    ≡ parts → next ≡ least → new ≡ values → IsAsked budget q more given next new
-asked_as budget q asked more parts given least next values new h a p l v =
-    subst (λ (xs : List SliceKey). IsAsked budget q xs given next new) (sym a)
-    (subst (λ (xs : List PlainPart). IsAsked budget q asked xs next new) (sym p)
-    (subst (λ (o : Option ℕ). IsAsked budget q asked parts o new) (sym l)
-    (subst (λ (xs : List ℤ). IsAsked budget q asked parts least xs) (sym v) h)))
-
--- there is no first open part, or there is one
-pub none_if : (o : Option ℕ) → ((s : ℕ) → o ≡ Some s → ⊥) → o ≡ None
-none_if None h = refl
-none_if (Some s) h = absurd (h s refl)
-
--- a vector whose elements were written in place
-pub refilled : (v : Vec ℤ Global) (ws : List ℤ) → length ws ≡ length v.items → (with_items v ws).items ≡ ws
-refilled v ws same = ap (λ (n : ℕ). take n (ws ++ drop (length ws) v.items)) (v.ok.0 ∙ sym same)
-    ∙ take-append_seam ws (drop (length ws) v.items)

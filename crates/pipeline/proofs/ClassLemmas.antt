@@ -1,8 +1,8 @@
 -- The slices with variables of a query whose slices were brought to keys.
 use Rattle.std.proofs.Common.{◌≡◌, ◌⊎◌, inl, inr, ⊎_elim, ℕ, zero, suc, ◌<◌, ℤ, Option, Some, None, IsSomeAnd, List, []}
-use Rattle.std.proofs.Common.{◌∷◌, ◌++◌, length, get_or, slice_get, take, arith, refl, sym, subst, ◌∙◌}
+use Rattle.std.proofs.Common.{◌∷◌, ◌++◌, length, get_or, slice_get, arith, refl, sym, subst, ◌∙◌}
 use Rattle.std.specs.List.{All, Any, AllPairs, Contains, filter_map, cons_option}
-use Rattle.std.proofs.lemmas.List.{get_or_default, get_or-take, length-take}
+use Rattle.std.proofs.lemmas.List.{get_or_default}
 use Rattle.std.proofs.lemmas.Slice.Zip.{AllZip-long}
 use Rattle.std.proofs.lemmas.Option.{slice_get_within, get_or_from_slice_get}
 use Rattle.std.proofs.lemmas.List.Elements.{All-cons}
@@ -18,8 +18,8 @@ use Rattle.slicer.specs.Laws.{SlicesPartition, AreApart}
 use Rattle.canoniser.specs.Solutions.{point_of}
 use Rattle.refutation.specs.Reading.{HasNoPoint}
 use Rattle.pipeline.specs.declared.slice_keys.SliceKey.{SliceKey}
+use Rattle.pipeline.specs.Asking.{ShareNoVariable}
 use Rattle.pipeline.specs.Keyed.{HoldsAt, IsKeyed, AreKeyed}
-use Rattle.pipeline.proofs.AskLemmas.{AreOthers}
 use Rattle.pipeline.proofs.SliceLemmas.{atom_holds_at}
 
 -- ---- lists
@@ -46,7 +46,7 @@ one_picked {X} P xs j ys all None e rest = rest
 one_picked {X} P xs j ys all (Some y) e rest = All-cons P y ys
     (subst P (get_or_from_slice_get xs j y y e) (all j y (slice_get_within xs j y e))) rest
 
-pub all_picked : {X : Type 0} (P : X → Type 0) (xs : List X) (js : List ℕ) → All P xs
+all_picked : {X : Type 0} (P : X → Type 0) (xs : List X) (js : List ℕ) → All P xs
     → All P (filter_map (λ j. slice_get xs j) js)
 all_picked {X} P xs [] all = λ k d lt. absurd (omega arith)
 all_picked {X} P xs (j ∷ js) all = one_picked P xs j (filter_map (λ i. slice_get xs i) js) all (slice_get xs j) refl
@@ -59,11 +59,11 @@ keyed_at : (q : PlainCondition) (keys : List SliceKey) (h : AreKeyed q keys) (i 
 keyed_at q keys h i s k lt = AllZip-at (IsKeyed q) h.are.classes keys i s k h.each
     (omega (arith, lt, AllZip-long (IsKeyed q) h.are.classes keys h.each))
 
-abbrev pub no_slice : PlainSlice
+abbrev no_slice : PlainSlice
 no_slice = record { vars = []; atoms = [] }
 
 -- the slice of a key
-pub keyed : (q : PlainCondition) (keys : List SliceKey) (h : AreKeyed q keys) (i : ℕ) (k : SliceKey) → i < length keys
+keyed : (q : PlainCondition) (keys : List SliceKey) (h : AreKeyed q keys) (i : ℕ) (k : SliceKey) → i < length keys
     → k ≡ get_or keys i k → IsKeyed q (get_or h.are.classes i no_slice) k
 keyed q keys h i k lt is = subst (IsKeyed q (get_or h.are.classes i no_slice)) (sym is)
     (keyed_at q keys h i no_slice k lt)
@@ -81,22 +81,16 @@ declared_at q keys h i k lt is n d low = declared q keys h i k (get_or k.back n 
     (n, low, get_or_default k.back n (get_or k.back n d) d low)
 
 -- no variable is in two slices
-pub others : (q : PlainCondition) (keys : List SliceKey) (h : AreKeyed q keys) (i : ℕ) (k : SliceKey) → SlicesPartition
-    → Fits q.vars q.atoms → i < length keys → k ≡ get_or keys i k → AreOthers (take i keys) k
-others q keys h i k law fits lt is n d within v one other =
-    apart.vars v (((keyed_at q keys h n no_slice d (omega (arith, before, lt))).vars v).0 first)
-    (((keyed q keys h i k lt is).vars v).0 other)
+pub apart : (q : PlainCondition) (keys : List SliceKey) (h : AreKeyed q keys) → SlicesPartition
+    → Fits q.vars q.atoms → AllPairs ShareNoVariable keys
+apart q keys h law fits i j d lt within v one other =
+    (slices i j no_slice lt (omega (arith, within, AllZip-long (IsKeyed q) h.are.classes keys h.each))).vars v
+    (((keyed_at q keys h i no_slice d (omega (arith, lt, within))).vars v).0 one)
+    (((keyed_at q keys h j no_slice d within).vars v).0 other)
   where
-    before : n < i
-    before = omega (arith, within, length-take i keys)
-
-    first : Contains (get_or keys n d).back v
-    first = subst (λ (j : SliceKey). Contains j.back v) (get_or-take i keys n d before) one
-
-    apart : AreApart (get_or h.are.classes n no_slice) (get_or h.are.classes i no_slice)
-    apart = pairs_tail AreApart h.are.front h.are.classes
-        (subst (AllPairs AreApart) h.are.joined (law q h.slices fits.in_range h.are).apart) n i no_slice before
-        (omega (arith, lt, AllZip-long (IsKeyed q) h.are.classes keys h.each))
+    slices : AllPairs AreApart h.are.classes
+    slices = pairs_tail AreApart h.are.front h.are.classes
+        (subst (AllPairs AreApart) h.are.joined (law q h.slices fits.in_range h.are).apart)
 
 -- ---- unsatisfiable by a slice
 
@@ -117,7 +111,7 @@ SatisfiesKey values k = KeyHolds k.key (point_of k.back values)
 abbrev pub SatisfiesAll : List SliceKey → List ℤ → Type 0
 SatisfiesAll keys values = All (SatisfiesKey values) keys
 
-value_of_point : (back : List ℕ) (values : List ℤ) (v : ℕ) → v < length back → value_at (point_of back values) v
+pub value_of_point : (back : List ℕ) (values : List ℤ) (v : ℕ) → v < length back → value_at (point_of back values) v
     ≡ value_at values (get_or back v 0)
 value_of_point [] values v lt = absurd (omega arith)
 value_of_point (w ∷ back) values zero lt = refl

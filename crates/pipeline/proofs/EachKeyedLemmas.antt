@@ -1,10 +1,10 @@
 -- Every query has keys for its slices, or a least atom that no integers satisfy.
-use Rattle.std.proofs.Common.{◌≡◌, ℕ, ◌+◌, ◌≤◌, zero, suc, Option, Some, None, List, [], ◌∷◌, length, take, get_or}
+use Rattle.std.proofs.Common.{◌≡◌, ◌≢◌, ℕ, ◌+◌, ◌≤◌, zero, suc, Option, Some, None, List, [], ◌∷◌, length, take, get_or}
 use Rattle.std.proofs.Common.{Bool, true, false, cond, nat_lt, ◌⊎◌, inl, inr, subst, arith}
-use Rattle.std.specs.List.{All, AllZip, Contains}
+use Rattle.std.specs.List.{All, AllPairs, AllZip, Contains}
 use Rattle.std.proofs.Math.Seq.{take-length}
 use Rattle.std.proofs.lemmas.List.{get_or_default}
-use Rattle.std.proofs.lemmas.List.Elements.{All-cons, All-nil, All-head, All-tail}
+use Rattle.std.proofs.lemmas.List.Elements.{All-cons, All-nil, All-head, All-tail, All-weaker}
 use Rattle.lin_model.specs.Conditions.{PlainCondition, IsCondition}
 use Rattle.lin_model.specs.Lists.{Contains-first, Contains-later}
 use Rattle.slicer.specs.Slices.{PlainSlice, AreSlices}
@@ -14,7 +14,8 @@ use Rattle.canoniser.specs.declared.canonical.Canonical.TheVariants.{False, Key}
 use Rattle.canoniser.specs.Answers.{Canonises}
 use Rattle.canoniser.specs.OneKey.{AreWithinLimits, IsWithinLimits, EachHasCanonical}
 use Rattle.pipeline.specs.declared.slice_keys.SliceKey.{SliceKey}
-use Rattle.pipeline.specs.Keyed.{AreKeyed, HasLeastFalse, HasKey, IsLeastFalseAmong, least_with, keys_in}
+use Rattle.pipeline.specs.Keyed.{AreKeyed, KeepsKeyLimits, HasLeastFalse, HasKey}
+use Rattle.pipeline.specs.Keyed.{IsLeastFalseAmong, least_with, keys_in}
 use Rattle.pipeline.proofs.KeyedLemmas.{IsLeastSoFar, least_more}
 use Rattle.pipeline.proofs.SliceLemmas.{least_is_false, keys_are_keyed}
 
@@ -75,7 +76,7 @@ false_or_keys canonicals =
 -- ---- the keys
 
 -- the key and the way back of a slice keep the limits of their types
-abbrev pub KeepsLimits : SliceKey → Type 0
+abbrev KeepsLimits : SliceKey → Type 0
 KeepsLimits k = AreWithinLimits k.key k.back
 
 limits_by : (wide : Bool) (k : SliceKey) (rest : List SliceKey) → KeepsLimits k → All KeepsLimits rest
@@ -96,11 +97,15 @@ pub record SomeFalse (q : PlainCondition) : Type 0 where
   pub number : ℕ
   pub is : HasLeastFalse q number
 
--- the keys of a query's slices, within the limits of their types
+-- no variable stands twice in the way back
+abbrev pub HasDistinct : SliceKey → Type 0
+HasDistinct k = AllPairs ◌≢◌ k.back
+
+-- the keys of a query's slices
 pub record SomeKeys (q : PlainCondition) : Type 0 where
   pub keys : List SliceKey
   pub are : AreKeyed q keys
-  pub limits : All KeepsLimits keys
+  pub distinct : All HasDistinct keys
 
 pub keys_or_false : EachHasSlices → SlicesPartition → EachHasCanonical → (q : PlainCondition) → IsCondition q
     → SomeKeys q ⊎ SomeFalse q
@@ -119,7 +124,12 @@ keys_or_false slices_exist parts canonical_exists q fits =
       })
       | inr keys ↦ inl (record {
         keys = keys_in all.canonicals;
-        are = keys_are_keyed q some.slices all.canonicals parts fits.fits some.are all.each keys;
-        limits = limits_in all.canonicals all.limits;
+        are =
+            keys_are_keyed q some.slices all.canonicals parts fits.fits some.are all.each keys
+            (All-weaker KeepsLimits KeepsKeyLimits (λ k limits. limits.key) (keys_in all.canonicals)
+            (limits_in all.canonicals all.limits));
+        distinct =
+            All-weaker KeepsLimits HasDistinct (λ k limits. limits.distinct) (keys_in all.canonicals)
+            (limits_in all.canonicals all.limits);
       })
     ]

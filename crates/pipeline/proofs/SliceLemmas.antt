@@ -1,8 +1,8 @@
 -- From what the slices come to, to their keys.
-use Rattle.std.proofs.Common.{◌≡◌, ◌↔◌, ℕ, suc, ◌<◌, ℤ, Bool, true, false, cond, nat_lt, Option, Some, None}
+use Rattle.std.proofs.Common.{◌≡◌, ◌↔◌, ℕ, zero, suc, ◌<◌, ◌≤◌, ℤ, Bool, true, false, cond, nat_lt, Option, Some, None}
 use Rattle.std.proofs.Common.{IsSomeAnd, List, [], ◌∷◌, ◌++◌, length, get_or, slice_get, arith, refl, sym, subst, ap}
 use Rattle.std.proofs.Common.{◌∙◌}
-use Rattle.std.specs.List.{All, Any, AllZip, Contains, filter_map}
+use Rattle.std.specs.List.{All, AllPairs, AllZip, Any, Contains, filter_map}
 use Rattle.std.proofs.lemmas.Bool.{ltb-false}
 use Rattle.std.proofs.lemmas.Slice.Zip.{AllZip-long}
 use Rattle.std.proofs.lemmas.List.Elements.{All-contains, All-head, All-tail}
@@ -12,7 +12,7 @@ use Rattle.lin_model.specs.declared.atom.Atom.{Atom}
 use Rattle.lin_model.specs.KeyAtom.{PlainKeyAtom}
 use Rattle.lin_model.specs.Key.{KeyHolds}
 use Rattle.lin_model.specs.Lists.{Contains-filter_map, nil_from_none, Found-at, within_from_IsSomeAnd, AllZip-at}
-use Rattle.slicer.specs.Slices.{PlainSlice, AreSlices, IsSliceOf, least, IsVariableFree, IsFront}
+use Rattle.slicer.specs.Slices.{PlainSlice, AreSlices, AreClasses, IsSliceOf, least, IsVariableFree, IsFront}
 use Rattle.slicer.specs.Names.{NamesNothingAt, atom_vars}
 use Rattle.slicer.specs.Linked.{alone}
 use Rattle.slicer.specs.Laws.{SlicesPartition}
@@ -23,7 +23,8 @@ use Rattle.canoniser.specs.Solutions.{IsFalse, IsFalseAt, SliceHolds, point_of}
 use Rattle.canoniser.specs.Answers.{Canonises}
 use Rattle.pipeline.specs.declared.slice_keys.SliceKey.{SliceKey}
 use Rattle.pipeline.specs.Answers.{NoneIsFalse, IsLeastFalse}
-use Rattle.pipeline.specs.Keyed.{HoldsAt, IsKeyed, AreKeyed, HasKey, IsNotBelow, IsLeastFalseAmong, keys_in}
+use Rattle.pipeline.specs.Keyed.{HoldsAt, IsKeyed, AreKeyed, KeepsKeyLimits, HasKey, IsNotBelow}
+use Rattle.pipeline.specs.Keyed.{IsLeastFalseAmong, keys_in}
 
 -- ---- lists
 
@@ -172,6 +173,30 @@ atom_holds_at q s values j holds has lt = of (slice_get q.atoms j) refl
     of (Some atom) e =
         All-filter_map (λ j. slice_get q.atoms j) (λ atom. AtomHolds atom values) s.atoms j atom holds has e
 
+-- ---- how many slices have variables
+
+-- the least variables rise with the places
+rises : (classes : List PlainSlice) (k : ℕ) (d : PlainSlice) → AllPairs (λ s t. least s < least t) classes
+    → k < length classes → k ≤ least (get_or classes k d)
+rises classes zero d ordered lt = omega arith
+rises classes (suc k) d ordered lt = omega
+    (arith, rises classes k d ordered (omega (arith, lt)), ordered k (suc k) d (omega arith) lt)
+
+few_classes : (q : PlainCondition) (classes : List PlainSlice) → Fits q.vars q.atoms → AreClasses q classes
+    → length classes ≤ 64
+few_classes q [] fits are = omega arith
+few_classes q (s ∷ classes) fits are = omega (
+  arith,
+  rises (s ∷ classes) (length classes) s are.by_least (omega arith),
+  (are.each (length classes) s (omega arith)).declared,
+  fits.few_vars,
+)
+
+few_keys : (q : PlainCondition) (classes : List PlainSlice) (keys : List SliceKey) → Fits q.vars q.atoms
+    → AreClasses q classes → AllZip (IsKeyed q) classes keys → length keys ≤ 64
+few_keys q classes keys fits are each =
+    omega (arith, few_classes q classes fits are, AllZip-long (IsKeyed q) classes keys each)
+
 -- ---- the keys
 
 drop_key : (b : Bool) (k : SliceKey) (ks : List SliceKey) → b ≡ false → cond b (k ∷ ks) ks ≡ ks
@@ -183,17 +208,18 @@ is_false xs e = ap (λ (ys : List ℕ). nat_lt 0 (length ys)) e
 
 -- the slice without variables stands in front
 one_front : (q : PlainCondition) (s : PlainSlice) (slices : List PlainSlice) (are : AreSlices q slices)
-    (cs : List Canonical) → IsVariableFree (NamesNothingAt q.atoms) s → AllZip (Canonises q) (s ∷ are.classes) cs
-    → All HasKey cs → NoneIsFalse q → AreKeyed q (keys_in cs)
-one_front q s slices are [] free zip keys none_false = absurd zip
-one_front q s slices are (False j ∷ cs) free zip keys none_false = absurd (All-head HasKey (False j) cs keys)
-one_front q s slices are (Key key back ∷ cs) free zip keys none_false = record {
+    (cs : List Canonical) → Fits q.vars q.atoms → IsVariableFree (NamesNothingAt q.atoms) s
+    → AllZip (Canonises q) (s ∷ are.classes) cs → All HasKey cs → All KeepsKeyLimits (keys_in cs) → NoneIsFalse q
+    → AreKeyed q (keys_in cs)
+one_front q s slices are [] fits free zip keys limits none_false = absurd zip
+one_front q s slices are (False j ∷ cs) fits free zip keys limits none_false =
+    absurd (All-head HasKey (False j) cs keys)
+one_front q s slices are (Key key back ∷ cs) fits free zip keys limits none_false = record {
   slices = slices;
   are = are;
-  each = subst (AllZip (IsKeyed q) are.classes)
-      (sym (drop_key (nat_lt 0 (length back)) (record { key = key; back = back }) (keys_in cs) (is_false back empty)))
-      (classes-keyed q are.classes cs (classes-have_vars q are.classes are.linked.each) zip.1
-      (All-tail HasKey (Key key back) cs keys));
+  each = each;
+  few = few_keys q are.classes (keys_in (Key key back ∷ cs)) fits are.linked each;
+  limits = limits;
   none_false = none_false;
   variable_free = λ values assigned j names. atom_holds_at q s values j
       (always_holds q s (Key key back) free.vars zip.0 tt values assigned) ((free.atoms.just j).1 names)
@@ -203,26 +229,41 @@ one_front q s slices are (Key key back ∷ cs) free zip keys none_false = record
     empty : back ≡ []
     empty = no_width back (subst (λ (vs : List ℕ). (v : ℕ) → Contains back v ↔ Contains vs v) free.vars zip.0.vars)
 
+    each : AllZip (IsKeyed q) are.classes (keys_in (Key key back ∷ cs))
+    each = subst (AllZip (IsKeyed q) are.classes)
+        (sym (drop_key (nat_lt 0 (length back)) (record { key = key; back = back }) (keys_in cs)
+        (is_false back empty)))
+        (classes-keyed q are.classes cs (classes-have_vars q are.classes are.linked.each) zip.1
+        (All-tail HasKey (Key key back) cs keys))
+
     has_atom : (j : ℕ) → NamesNothingAt q.atoms j → j < length q.atoms
     has_atom j names = within_from_IsSomeAnd q.atoms (λ atom. atom_vars atom ≡ []) j names
 
 pub keys_are_keyed : (q : PlainCondition) (slices : List PlainSlice) (cs : List Canonical) → SlicesPartition
     → Fits q.vars q.atoms → AreSlices q slices → AllZip (Canonises q) slices cs → All HasKey cs
-    → AreKeyed q (keys_in cs)
-keys_are_keyed q slices cs law fits are zip keys = of are.front are.variable_free are.joined
+    → All KeepsKeyLimits (keys_in cs) → AreKeyed q (keys_in cs)
+keys_are_keyed q slices cs law fits are zip keys limits = of are.front are.variable_free are.joined
   where
     joined : (front : List PlainSlice) → slices ≡ front ++ are.classes → AllZip (Canonises q) (front ++ are.classes) cs
     joined front is = subst (λ (ss : List PlainSlice). AllZip (Canonises q) ss cs) is zip
+
+    without_front : slices ≡ are.classes → AllZip (IsKeyed q) are.classes (keys_in cs)
+    without_front is =
+        classes-keyed q are.classes cs (classes-have_vars q are.classes are.linked.each)
+        (subst (λ (ss : List PlainSlice). AllZip (Canonises q) ss cs) is zip) keys
 
     of : (front : List PlainSlice) → IsFront (NamesNothingAt q.atoms) front → slices ≡ front ++ are.classes
         → AreKeyed q (keys_in cs)
     of [] none is = record {
       slices = slices;
       are = are;
-      each = classes-keyed q are.classes cs (classes-have_vars q are.classes are.linked.each) (joined [] is) keys;
+      each = without_front is;
+      few = few_keys q are.classes (keys_in cs) fits are.linked (without_front is);
+      limits = limits;
       none_false = none_is_false q slices cs law fits are zip keys;
       variable_free = λ values assigned j names. absurd (none j names);
     }
     of (s ∷ []) one is =
-        one_front q s slices are cs one (joined (s ∷ []) is) keys (none_is_false q slices cs law fits are zip keys)
+        one_front q s slices are cs fits one (joined (s ∷ []) is) keys limits
+        (none_is_false q slices cs law fits are zip keys)
     of (s ∷ t ∷ more) bad is = absurd bad

@@ -1,103 +1,76 @@
 -- A budget that is at least the room of each key that was asked leaves no slice open.
-use Rattle.std.proofs.Common.{◌≡◌, ◌≢◌, ℕ, zero, suc, ◌+◌, ◌<◌, IsSomeAnd, Option, Some, None, List, [], ◌∷◌, length}
-use Rattle.std.proofs.Common.{get_or, slice_get, take, arith, refl, subst, ap, All}
-use Rattle.std.specs.List.{AllZip}
-use Rattle.std.proofs.lemmas.List.{length-take, get_or-take}
-use Rattle.std.proofs.lemmas.Option.{slice_get_within, get_or_from_slice_get}
-use Rattle.std.proofs.lemmas.Slice.Zip.{AllZip-long}
+use Rattle.std.proofs.Common.{◌≡◌, ◌≢◌, ℕ, ◌<◌, ◌≤◌, true, false, IsSomeAnd, List, [], ◌∷◌, length}
+use Rattle.std.proofs.Common.{slice_get, take, refl, arith}
+use Rattle.std.specs.List.{All, AllZip}
+use Rattle.std.proofs.lemmas.List.Elements.{All-cons, All-head, All-nil, All-tail}
 use Rattle.lin_model.specs.Conditions.{PlainCondition}
-use Rattle.lin_model.specs.Lists.{within_from_IsSomeAnd}
+use Rattle.lin_model.specs.KeyAtom.{PlainKeyAtom}
+use Rattle.lin_model.specs.Lists.{All-at, Found-from}
 use Rattle.slicer.specs.Slices.{PlainSlice}
-use Rattle.pipeline.specs.declared.answer.Verdict.{Verdict}
-use Rattle.pipeline.specs.declared.answer.Verdict.TheVariants.{Sat, UnsatAtom, UnsatSlice, Unknown}
-use Rattle.pipeline.specs.declared.answer.PlainPart.{PlainPart}
-use Rattle.pipeline.specs.declared.answer.PlainPart.TheVariants.{Solved, Open}
-use Rattle.pipeline.specs.Answers.{Leaves, IsOpen, IsRightVerdict}
+use Rattle.refutation.specs.Laws.{OpenTreesAreBelowRoom}
+use Rattle.refutation.specs.SearchTree.{halving, room}
+use Rattle.cert_check.specs.declared.entry.Entry.{Entry}
+use Rattle.cert_check.specs.declared.reply.Reply.{Reply}
+use Rattle.cert_check.specs.declared.reply.Reply.TheVariants.{Hit, Solved, Unkept, Spent}
+use Rattle.cert_check.specs.Machine.{Turn}
+use Rattle.cert_check.specs.Replies.{Stands, is_spent}
+use Rattle.pipeline.specs.declared.answers.Verdict.{Verdict}
+use Rattle.pipeline.specs.declared.answers.Verdict.TheVariants.{Sat, UnsatAtom, UnsatSlice, Unknown}
+use Rattle.pipeline.specs.Answers.{IsKeyToAsk, IsRightVerdict}
 use Rattle.pipeline.specs.Laws.{HasRoomWithin, SufficientDecides}
-use Rattle.pipeline.proofs.ClassLemmas.{no_slice}
 
--- a slice whose key has no more room than the budget was solved
-solved_here : (budget : ℕ) (q : PlainCondition) (slice : PlainSlice) (part : PlainPart) → Leaves budget q slice part
-    → HasRoomWithin budget q slice → part ≡ Solved
-solved_here budget q slice Solved leaves within = refl
-solved_here budget q slice (Open tree) leaves within =
-    let above = leaves.spent.below_room in
-    let below = within leaves.key leaves.is_key in
-    absurd (omega (arith, above, below))
+-- a slice whose key has no more room than the budget is decided
+decided_here : OpenTreesAreBelowRoom → (log : List Turn) (entries : List Entry) (seat budget : ℕ) (q : PlainCondition)
+    (slice : PlainSlice) (key : List PlainKeyAtom) (reply : Reply) → IsKeyToAsk q slice key
+    → Stands log entries seat budget key reply → HasRoomWithin budget q slice → is_spent reply ≡ false
+decided_here law log entries seat budget q slice key (Hit entry place n) is stands within = refl
+decided_here law log entries seat budget q slice key (Solved entry place n saved) is stands within = refl
+decided_here law log entries seat budget q slice key (Unkept entry n saved) is stands within = refl
+decided_here law log entries seat budget q slice key (Spent tree n) is stands within =
+    let above : budget < room key =
+    law.below {rule = halving} key budget tree.nodes tree.terms is.limits is.boxed stands.open_tree in
+    let below : room key ≤ budget = within key is.is_key in
+    absurd (omega arith)
 
--- the same at a number, where each part says what was left of its slice
-solved_at : (budget : ℕ) (q : PlainCondition) (classes : List PlainSlice) (parts : List PlainPart) (k : ℕ)
-    (d : PlainPart) → AllZip (Leaves budget q) classes parts → k < length parts
-    → HasRoomWithin budget q (get_or classes k no_slice) → get_or parts k d ≡ Solved
-solved_at budget q [] [] k d leaves lt within = absurd (omega (arith, lt))
-solved_at budget q [] (part ∷ parts) k d leaves lt within = absurd leaves
-solved_at budget q (slice ∷ classes) [] k d leaves lt within = absurd leaves
-solved_at budget q (slice ∷ classes) (part ∷ parts) zero d leaves lt within =
-    solved_here budget q slice part leaves.0 within
-solved_at budget q (slice ∷ classes) (part ∷ parts) (suc k) d leaves lt within =
-    solved_at budget q classes parts k d leaves.1 (omega (arith, lt)) within
+-- and so are all
+all_decided : OpenTreesAreBelowRoom → (log : List Turn) (entries : List Entry) (seat budget : ℕ) (q : PlainCondition)
+    (classes : List PlainSlice) (keys : List (List PlainKeyAtom)) (replies : List Reply)
+    → AllZip (IsKeyToAsk q) classes keys → AllZip (Stands log entries seat budget) keys replies
+    → All (HasRoomWithin budget q) classes → All (λ reply. is_spent reply ≡ false) replies
+all_decided law log entries seat budget q [] [] [] keyed stand within = All-nil (λ reply. is_spent reply ≡ false)
+all_decided law log entries seat budget q [] [] (reply ∷ replies) keyed stand within = absurd stand
+all_decided law log entries seat budget q [] (key ∷ keys) replies keyed stand within = absurd keyed
+all_decided law log entries seat budget q (slice ∷ classes) [] replies keyed stand within = absurd keyed
+all_decided law log entries seat budget q (slice ∷ classes) (key ∷ keys) [] keyed stand within = absurd stand
+all_decided law log entries seat budget q (slice ∷ classes) (key ∷ keys) (reply ∷ replies) keyed stand within =
+    All-cons (λ reply. is_spent reply ≡ false) reply replies
+    (decided_here law log entries seat budget q slice key reply keyed.0 stand.0
+    (All-head (HasRoomWithin budget q) slice classes within))
+    (all_decided law log entries seat budget q classes keys replies keyed.1 stand.1
+    (All-tail (HasRoomWithin budget q) slice classes within))
 
--- the same where the last part is one that was solved, whatever was left of its slice
-solved_up_to : (budget : ℕ) (q : PlainCondition) (classes : List PlainSlice) (parts : List PlainPart) (s k : ℕ)
-    (d : PlainPart) → length parts ≡ s + 1 → AllZip (Leaves budget q) (take s classes) (take s parts)
-    → slice_get parts s ≡ Some Solved → k < length parts → HasRoomWithin budget q (get_or classes k no_slice)
-    → get_or parts k d ≡ Solved
-solved_up_to budget q classes [] s k d long leaves last lt within = absurd (omega (arith, lt))
-solved_up_to budget q classes (part ∷ parts) zero zero d long leaves last lt within = cc
-solved_up_to budget q classes (part ∷ parts) zero (suc k) d long leaves last lt within =
-    absurd (omega (arith, long, lt))
-solved_up_to budget q [] (part ∷ parts) (suc s) k d long leaves last lt within = absurd leaves
-solved_up_to budget q (slice ∷ classes) (part ∷ parts) (suc s) zero d long leaves last lt within =
-    solved_here budget q slice part leaves.0 within
-solved_up_to budget q (slice ∷ classes) (part ∷ parts) (suc s) (suc k) d long leaves last lt within =
-    solved_up_to budget q classes parts s k d (omega (arith, long)) leaves.1 last (omega (arith, lt)) within
-
--- what holds of the first items holds of each of them in the whole list
-read_front : {X : Type 0} (P : X → Type 0) (xs : List X) (n k : ℕ) (d : X) → All P (take n xs) → k < n → k < length xs
-    → P (get_or xs k d)
-read_front P xs n k d all within lt = subst P (get_or-take n xs k d within)
-    (all k d (omega (arith, length-take n xs, within, lt)))
-
--- a part that was left open isn't solved
-none_open : (parts : List PlainPart) (s : ℕ) → All (λ part. part ≡ Solved) parts
-    → IsSomeAnd (slice_get parts s) IsOpen → ⊥
-none_open parts s all some = of (slice_get parts s) refl some
-  where
-    of : (o : Option PlainPart) → slice_get parts s ≡ o → IsSomeAnd o IsOpen → ⊥
-    of None e h = absurd h
-    of (Some Solved) e h = absurd h
-    of (Some (Open tree)) e h =
-        let here = get_or_from_slice_get parts s (Open tree) (Open tree) e in
-        let solved = all s (Open tree) (slice_get_within parts s (Open tree) e) in
-        absurd (cc (here, solved))
-
--- where the budget is at least the room of each key that was asked, each part was solved
-all_solved : (budget : ℕ) (q : PlainCondition) (classes : List PlainSlice) (verdict : Verdict)
-    (parts : List PlainPart) → IsRightVerdict budget q classes verdict parts
-    → All (HasRoomWithin budget q) (take (length parts) classes) → All (λ part. part ≡ Solved) parts
-all_solved budget q classes (Sat values) parts right within = right.solved
-all_solved budget q classes (UnsatAtom j) parts right within =
-    λ k d lt. absurd (omega (arith, lt, ap length right.none_asked))
-all_solved budget q classes (UnsatSlice s) parts right within =
-    λ k d lt. solved_up_to budget q classes parts s k d right.asked right.before right.last lt
-    (read_front (HasRoomWithin budget q) classes (length parts) k no_slice within lt
-    (omega (arith, lt, right.asked, within_from_IsSomeAnd classes _ s right.refuted)))
-all_solved budget q classes (Unknown s) parts right within =
-    λ k d lt. solved_at budget q classes parts k d right.left lt
-    (read_front (HasRoomWithin budget q) classes (length parts) k no_slice within lt
-    (omega (arith, lt, AllZip-long (Leaves budget q) classes parts right.left)))
+-- none of the replies is open
+none_open : (replies : List Reply) (s : ℕ) → All (λ reply. is_spent reply ≡ false) replies
+    → IsSomeAnd (slice_get replies s) (λ reply. is_spent reply ≡ true) → ⊥
+none_open replies s all some =
+    let found = Found-from (slice_get replies s) (λ reply. is_spent reply ≡ true) some in
+    let open_one : is_spent found.value ≡ true = found.holds in
+    let decided : is_spent found.value ≡ false =
+    All-at (λ reply. is_spent reply ≡ false) replies s found.value all found.is in
+    absurd (cc)
 
 -- and then the verdict isn't unknown
-not_unknown : (budget : ℕ) (q : PlainCondition) (classes : List PlainSlice) (verdict : Verdict)
-    (parts : List PlainPart) → IsRightVerdict budget q classes verdict parts → All (λ part. part ≡ Solved) parts
-    → (s : ℕ) → verdict ≢ Unknown s
-not_unknown budget q classes (Sat values) parts right all s = λ e. absurd (cc)
-not_unknown budget q classes (UnsatAtom j) parts right all s = λ e. absurd (cc)
-not_unknown budget q classes (UnsatSlice t) parts right all s = λ e. absurd (cc)
-not_unknown budget q classes (Unknown t) parts right all s = λ e. none_open parts t all right.first.here
+not_unknown : (q : PlainCondition) (classes : List PlainSlice) (verdict : Verdict) (replies : List Reply)
+    → IsRightVerdict q classes verdict replies → All (λ reply. is_spent reply ≡ false) replies → (s : ℕ)
+    → verdict ≢ Unknown s
+not_unknown q classes (Sat values) replies right all s = λ e. absurd (cc)
+not_unknown q classes (UnsatAtom j) replies right all s = λ e. absurd (cc)
+not_unknown q classes (UnsatSlice t) replies right all s = λ e. absurd (cc)
+not_unknown q classes (Unknown t) replies right all s = λ e. none_open replies t all right.first.here
 
-pub sufficient-decides : SufficientDecides
-sufficient-decides budget q answer right enough =
-    let all = all_solved budget q right.classes answer.verdict answer.parts right.verdict
-    (enough right.classes right.are) in
-    record { solved = all; told = not_unknown budget q right.classes answer.verdict answer.parts right.verdict all }
+pub sufficient-decides : OpenTreesAreBelowRoom → SufficientDecides
+sufficient-decides law log entries seat budget q answer right enough =
+    let all =
+    all_decided law log entries seat budget q (take (length answer.parts) right.classes) right.keys answer.parts
+    right.keyed right.stand (enough right.classes right.are) in
+    record { decided = all; told = not_unknown q right.classes answer.verdict answer.parts right.verdict all }

@@ -1,147 +1,164 @@
--- Right verdicts, from how far the asking came.
-use Rattle.std.proofs.Common.{◌≡◌, ℕ, zero, suc, ◌+◌, ◌<◌, ℤ, Option, Some, None, IsSomeAnd, List, [], ◌∷◌, ◌++◌}
-use Rattle.std.proofs.Common.{length, get_or, slice_get, take, arith, refl, sym, subst, ap, ◌∙◌}
-use Rattle.std.specs.List.{All, AllZip}
-use Rattle.std.proofs.Math.Seq.{take-append_seam}
-use Rattle.std.proofs.lemmas.List.{length_push}
-use Rattle.std.proofs.lemmas.List.Elements.{All-nil, All-cons}
-use Rattle.std.proofs.lemmas.Option.{slice_get_within, get_or_from_slice_get}
+-- Right verdicts, from the replies to the first slices.
+use Rattle.std.proofs.Common.{◌≡◌, ℕ, ◌<◌, ◌≤◌, ℤ, Bool, true, false, cond, nat_lt, Option, Some, None}
+use Rattle.std.proofs.Common.{IsSomeAnd, List, [], ◌∷◌, length, get_or, slice_get, take, arith, refl, sym, subst, ap}
+use Rattle.std.proofs.Common.{◌∙◌}
+use Rattle.std.specs.List.{All, AllZip, position, position_or_len}
+use Rattle.std.proofs.lemmas.Bool.{ltb-false}
+use Rattle.std.proofs.lemmas.List.{get_or-map, get_or-take, get_or_default, length-map, length-take, length-take-le}
+use Rattle.std.proofs.lemmas.List.{take_all}
+use Rattle.std.proofs.lemmas.List.Quantifiers.{position-Some}
+use Rattle.std.proofs.lemmas.List.Sums.{fails_before_first}
+use Rattle.std.proofs.lemmas.Option.{get_or_from_slice_get, slice_get-get_or, slice_get_within}
 use Rattle.std.proofs.lemmas.Slice.Zip.{AllZip-long}
+use Rattle.lin_model.specs.Lists.{AllZip-at, IsSomeAnd-found}
+use Rattle.lin_model.specs.KeyAtom.{PlainKeyAtom}
 use Rattle.lin_model.specs.Truth.{AtomHolds}
 use Rattle.lin_model.specs.declared.atom.Atom.{Atom}
-use Rattle.lin_model.specs.Conditions.{PlainCondition, Fits, IsSatisfiable}
-use Rattle.slicer.specs.Slices.{PlainSlice}
-use Rattle.slicer.specs.Laws.{SlicesPartition}
-use Rattle.canoniser.specs.Solutions.{IsFalse, IsFalseAt, point_of}
+use Rattle.lin_model.specs.Conditions.{PlainCondition, Holds, IsSatisfiable}
+use Rattle.canoniser.specs.Solutions.{IsFalse, IsFalseAt}
+use Rattle.refutation.specs.Reading.{HasNoPoint}
+use Rattle.cert_check.specs.declared.reply.Reply.{Reply}
+use Rattle.cert_check.specs.Decides.{IsFirst}
+use Rattle.cert_check.specs.Laws.{SettledBy}
+use Rattle.cert_check.specs.Replies.{has_core, is_spent}
+use Rattle.pipeline.specs.declared.answers.Verdict.TheVariants.{Sat, UnsatSlice, Unknown}
 use Rattle.pipeline.specs.declared.slice_keys.SliceKey.{SliceKey}
-use Rattle.pipeline.specs.declared.answer.PlainPart.{PlainPart}
-use Rattle.pipeline.specs.declared.answer.PlainPart.TheVariants.{Solved, Open}
-use Rattle.pipeline.specs.declared.answer.Verdict.TheVariants.{Sat, UnsatAtom, UnsatSlice, Unknown}
-use Rattle.pipeline.specs.Answers.{IsModelOf, IsRefuted, IsGivenBy, Leaves, HasNoModel, IsRightAnswer}
+use Rattle.pipeline.specs.Answers.{IsUnsatAtom, NoneHasCore}
 use Rattle.pipeline.specs.Keyed.{IsKeyed, AreKeyed, HasLeastFalse}
-use Rattle.pipeline.specs.Asking.{KeyLeaves, IsMet, IsAsked}
-use Rattle.pipeline.proofs.AskLemmas.{get-last, all_met}
-use Rattle.pipeline.proofs.ClassLemmas.{no_slice, keyed, unsat_by_slice, sat_by_keys}
+use Rattle.pipeline.specs.Asking.{AreSettled, EndsAtCore, HasPoint, IsPlaced, IsRightFor, keys_to_ask}
+use Rattle.pipeline.proofs.ClassLemmas.{unsat_by_slice}
+use Rattle.pipeline.proofs.PlacedLemmas.{all_given, points_found}
+use Rattle.pipeline.proofs.PointLemmas.{reply_core}
 
--- ---- from keys to slices
+-- ---- the first that passes a test
 
-leaves_of : (budget : ℕ) (q : PlainCondition) (values : List ℤ) (s : PlainSlice) (k : SliceKey) (part : PlainPart)
-    → IsKeyed q s k → KeyLeaves budget values k part → Leaves budget q s part
-leaves_of budget q values s k Solved is met = record {
-  key = k.key;
-  is_key = is.is_key;
-  point =
-      point_of k.back values;
-  model = met;
+-- what is known where none passes
+pub none_passes : {X : Type 0} (p : X → Bool) (xs : List X) → position p xs ≡ None → All (λ x. p x ≡ false) xs
+none_passes p xs none k d lt = by_test (nat_lt (position_or_len p xs) (length xs)) refl none
+  where
+    by_test : (b : Bool) → nat_lt (position_or_len p xs) (length xs) ≡ b
+        → cond b (Some (position_or_len p xs)) None ≡ None → p (get_or xs k d) ≡ false
+    by_test true within there = absurd (cc)
+    by_test false past there =
+        let end = ltb-false (position_or_len p xs) (length xs) past in
+        fails_before_first p xs k d (omega (arith, end, lt))
+
+-- what is known of the first that passes
+pub record IsFoundAt {X : Type 0} (p : X → Bool) (xs : List X) (i : ℕ) : Type 0 where
+  pub within : i < length xs
+  pub here : IsSomeAnd (slice_get xs i) (λ x. p x ≡ true)
+  pub at : (d : X) → p (get_or xs i d) ≡ true
+  pub before : All (λ x. p x ≡ false) (take i xs)
+
+pub first_passes : {X : Type 0} (p : X → Bool) (xs : List X) (i : ℕ) → position p xs ≡ Some i → IsFoundAt p xs i
+first_passes p [] i found = absurd (cc)
+first_passes {X} p (x ∷ xs) i found =
+    let first = position-Some p (x ∷ xs) i x found in
+    record {
+      within = first.0;
+      here = IsSomeAnd-found (slice_get (x ∷ xs) i) (λ y. p y ≡ true) (get_or (x ∷ xs) i x)
+          (slice_get-get_or (x ∷ xs) i x first.0) first.1;
+      at = λ d. (position-Some p (x ∷ xs) i d found).1;
+      before = λ k d within.
+          let low : k < i = omega (arith, within, length-take i (x ∷ xs)) in
+          subst (λ (y : X). p y ≡ false) (sym (get_or-take i (x ∷ xs) k d low))
+          ((position-Some p (x ∷ xs) i d found).2 k low);
+    }
+
+-- so it is the first
+first_of : {X : Type 0} (p : X → Bool) (xs : List X) (i : ℕ) → IsFoundAt p xs i
+    → IsFirst (λ x. p x ≡ true) xs (Some i)
+first_of p xs i found = record {
+  here = found.here;
+  before = λ k d lt passes.
+      let fails = found.before k d lt in absurd (cc);
 }
-leaves_of budget q values s k (Open tree) is spent = record { key = k.key; is_key = is.is_key; spent = spent }
-
-zip_leaves : (budget : ℕ) (q : PlainCondition) (values : List ℤ) (classes : List PlainSlice) (keys : List SliceKey)
-    (parts : List PlainPart) → AllZip (IsKeyed q) classes keys → AllZip (KeyLeaves budget values) keys parts
-    → AllZip (Leaves budget q) classes parts
-zip_leaves budget q values [] [] [] are leave = tt
-zip_leaves budget q values [] [] (p ∷ parts) are leave = absurd leave
-zip_leaves budget q values [] (k ∷ keys) parts are leave = absurd are
-zip_leaves budget q values (s ∷ classes) [] parts are leave = absurd are
-zip_leaves budget q values (s ∷ classes) (k ∷ keys) [] are leave = absurd leave
-zip_leaves budget q values (s ∷ classes) (k ∷ keys) (p ∷ parts) are leave =
-    (leaves_of budget q values s k p are.0 leave.0, zip_leaves budget q values classes keys parts are.1 leave.1)
-
--- the values meet the keys of the slices, so each slice gave its variables their values
-given_of : (budget : ℕ) (q : PlainCondition) (values : List ℤ) (classes : List PlainSlice) (keys : List SliceKey)
-    → AllZip (IsKeyed q) classes keys → All (IsMet budget values) keys → All (IsGivenBy budget q values) classes
-given_of budget q values [] keys are met = All-nil (IsGivenBy budget q values)
-given_of budget q values (s ∷ classes) [] are met = absurd are
-given_of budget q values (s ∷ classes) (k ∷ keys) are met =
-    All-cons (IsGivenBy budget q values) s classes
-    (record {
-      key = k.key;
-      is_key = are.0.is_key;
-      model =
-          subst (λ (order : List ℕ). IsModelOf budget k.key (point_of order values)) are.0.numbered
-          (met 0 k (omega arith));
-    })
-    (given_of budget q values classes keys are.1 (λ i d lt. met (suc i) d (omega (arith, lt))))
-
-zip_take : {A B : Type 0} (R : A → B → Type 0) (n : ℕ) (xs : List A) (ys : List B) → AllZip R xs ys
-    → AllZip R (take n xs) (take n ys)
-zip_take {A} {B} R zero xs ys h = tt
-zip_take {A} {B} R (suc n) [] [] h = tt
-zip_take {A} {B} R (suc n) [] (y ∷ ys) h = absurd h
-zip_take {A} {B} R (suc n) (x ∷ xs) [] h = absurd h
-zip_take {A} {B} R (suc n) (x ∷ xs) (y ∷ ys) h = (h.0, zip_take R n xs ys h.1)
-
--- the items that are there, looked up
-found : {X : Type 0} (xs : List X) (i : ℕ) (d : X) → i < length xs → slice_get xs i ≡ Some (get_or xs i d)
-found {X} [] i d lt = absurd (omega arith)
-found {X} (x ∷ xs) zero d lt = refl
-found {X} (x ∷ xs) (suc i) d lt = found xs i d (omega (arith, lt))
 
 -- ---- the verdicts
 
-pub right_unsat : (budget : ℕ) (q : PlainCondition) (keys : List SliceKey) (h : AreKeyed q keys)
-    (parts : List PlainPart) (least : Option ℕ) (values : List ℤ) (i : ℕ) (k : SliceKey) → i < length keys
-    → k ≡ get_or keys i k → IsAsked budget q (take i keys) parts least values → length (take i keys) ≡ i
-    → IsRefuted budget k.key → IsRightAnswer budget q (record { verdict = UnsatSlice i; parts = parts ++ Solved ∷ [] })
-right_unsat budget q keys h parts least values i k lt is asked long refuted = record {
-  classes = h.are.classes;
-  are = h.are.linked;
-  verdict = record {
+-- what settles a slice that was asked
+settled_at : (slices : List SliceKey) (replies : List Reply) (i : ℕ) (slice : SliceKey) (reply : Reply)
+    → length replies ≤ length slices → AreSettled slices replies → i < length replies
+    → slice ≡ get_or slices i slice → SettledBy slice.key (get_or replies i reply)
+settled_at slices replies i slice reply few settled lt is =
+    let count : length (keys_to_ask slices) ≡ length slices = length-map slices (λ (s : SliceKey). s.key) in
+    let enough : length replies ≤ length (keys_to_ask slices) = omega arith in
+    let within : i < length slices = omega arith in
+    let asked : i < length (take (length replies) (keys_to_ask slices)) =
+    omega (arith, length-take-le (length replies) (keys_to_ask slices) enough) in
+    let key : get_or (take (length replies) (keys_to_ask slices)) i [] ≡ slice.key =
+    get_or-take (length replies) (keys_to_ask slices) i [] lt
+    ∙ (get_or-map (λ (s : SliceKey). s.key) slices i slice [] within ∙ ap (λ (s : SliceKey). s.key) (sym is)) in
+    subst (λ (k : List PlainKeyAtom). SettledBy k (get_or replies i reply)) key
+    (AllZip-at SettledBy (take (length replies) (keys_to_ask slices)) replies i [] reply settled asked)
+
+no_key : SliceKey
+no_key = record { key = []; back = [] }
+
+pub right_unsat : (q : PlainCondition) (slices : List SliceKey) (replies : List Reply) (s : ℕ) → AreKeyed q slices
+    → EndsAtCore slices replies → AreSettled slices replies → IsFoundAt has_core replies s
+    → IsRightFor q slices replies (UnsatSlice s)
+right_unsat q slices [] s h ends settled found = absurd (omega (arith, found.within))
+right_unsat q slices (r ∷ rest) s h ends settled found =
+    let within : s < length slices = omega (arith, found.within, ends.few) in
+    let is : get_or slices s no_key ≡ get_or slices s (get_or slices s no_key) =
+    get_or_default slices s no_key (get_or slices s no_key) within in
+    let by : SettledBy (get_or slices s no_key).key (get_or (r ∷ rest) s r) =
+    settled_at slices (r ∷ rest) s (get_or slices s no_key) r ends.few settled found.within is in
+    let none : HasNoPoint (get_or slices s no_key).key =
+    reply_core (get_or slices s no_key).key (get_or (r ∷ rest) s r) (found.at r) by in
+    record {
+      keyed = h;
+      right = record {
+        none_false = h.none_false;
+        asked = ends.core_last s found.here;
+        before = found.before;
+        last = found.here;
+        unsatisfiable = unsat_by_slice q slices h s (get_or slices s no_key) within is none;
+      };
+    }
+
+pub right_unknown : (q : PlainCondition) (slices : List SliceKey) (replies : List Reply) (s : ℕ) → AreKeyed q slices
+    → EndsAtCore slices replies → NoneHasCore replies → IsFoundAt is_spent replies s
+    → IsRightFor q slices replies (Unknown s)
+right_unknown q slices replies s h ends no_core found = record {
+  keyed = h;
+  right = record {
     none_false = h.none_false;
-    asked = length_push parts Solved ∙ ap (λ (n : ℕ). n + 1) parts_long;
-    before = subst (AllZip (Leaves budget q) (take i h.are.classes)) (sym front)
-        (zip_leaves budget q values (take i h.are.classes) (take i keys) parts
-        (zip_take (IsKeyed q) i h.are.classes keys h.each) asked.leaves);
-    last = ap (slice_get (parts ++ Solved ∷ [])) (sym parts_long) ∙ get-last parts Solved;
-    refuted = subst (λ (o : Option PlainSlice). IsSomeAnd o (HasNoModel budget q))
-        (sym (found h.are.classes i no_slice (omega (arith, lt, AllZip-long (IsKeyed q) h.are.classes keys h.each))))
-        (record { key = k.key; is_key = (keyed q keys h i k lt is).is_key; refuted = refuted });
-    unsatisfiable = unsat_by_slice q keys h i k lt is refuted.none;
+    asked = ends.all no_core ∙ AllZip-long (IsKeyed q) h.are.classes slices h.each;
+    no_core = no_core;
+    first = first_of is_spent replies s found;
   };
 }
-  where
-    parts_long : length parts ≡ i
-    parts_long = AllZip-long (KeyLeaves budget values) (take i keys) parts asked.leaves ∙ long
 
-    front : take i (parts ++ Solved ∷ []) ≡ parts
-    front = ap (λ (n : ℕ). take n (parts ++ Solved ∷ [])) (sym parts_long) ∙ take-append_seam parts (Solved ∷ [])
-
-pub right_unknown : (budget : ℕ) (q : PlainCondition) (keys : List SliceKey) (h : AreKeyed q keys)
-    (parts : List PlainPart) (s : ℕ) (values : List ℤ) → IsAsked budget q keys parts (Some s) values
-    → IsRightAnswer budget q (record { verdict = Unknown s; parts = parts })
-right_unknown budget q keys h parts s values asked = record {
-  classes = h.are.classes;
-  are = h.are.linked;
-  verdict = record {
+pub right_sat : (q : PlainCondition) (slices : List SliceKey) (replies : List Reply) (values : List ℤ)
+    → AreKeyed q slices → Holds q values → AllZip (IsPlaced values) slices replies
+    → IsRightFor q slices replies (Sat values)
+right_sat q slices replies values h holds placed = record {
+  keyed = h;
+  right = record {
     none_false = h.none_false;
-    left =
-        zip_leaves budget q values h.are.classes keys parts h.each asked.leaves;
-    first = asked.first;
+    holds = holds;
+    given = all_given q h.are.classes slices replies values h.each placed;
   };
 }
 
-pub right_sat : (budget : ℕ) (q : PlainCondition) (keys : List SliceKey) (h : AreKeyed q keys) (parts : List PlainPart)
-    (values : List ℤ) → SlicesPartition → Fits q.vars q.atoms → IsAsked budget q keys parts None values
-    → IsRightAnswer budget q (record { verdict = Sat values; parts = parts })
-right_sat budget q keys h parts values law fits asked = record {
-  classes = h.are.classes;
-  are = h.are.linked;
-  verdict = record {
-    none_false = h.none_false;
-    holds = sat_by_keys q keys h values law fits (λ i d lt. (met i d lt).tree.holds) asked.long;
-    given = given_of budget q values h.are.classes keys h.each met;
-    asked =
-        AllZip-long (KeyLeaves budget values) keys parts asked.leaves
-        ∙ AllZip-long (IsKeyed q) h.are.classes keys h.each;
-    solved = asked.first;
-  };
-}
-  where
-    met : All (IsMet budget values) keys
-    met = all_met budget values keys parts asked.leaves asked.first
+-- where all were asked, none has a core and none is open, each has a point
+pub all_found : (slices : List SliceKey) (replies : List Reply) → EndsAtCore slices replies
+    → AreSettled slices replies → NoneHasCore replies → All (λ reply. is_spent reply ≡ false) replies
+    → AllZip HasPoint slices replies
+all_found slices replies ends settled no_core decided =
+    let count : length replies ≡ length slices = ends.all no_core in
+    let keys : length (keys_to_ask slices) ≤ length replies =
+    omega (arith, length-map slices (λ (s : SliceKey). s.key)) in
+    points_found slices replies
+    (subst (λ (ks : List (List PlainKeyAtom)). AllZip SettledBy ks replies)
+    (take_all (length replies) (keys_to_ask slices) keys) settled) no_core decided
+
+-- ---- an atom that no integers satisfy
 
 unsat_by_atom : (q : PlainCondition) (j : ℕ) → IsFalseAt q j → IsSatisfiable q → ⊥
-unsat_by_atom q j false (values, holds) = of (slice_get q.atoms j) refl false
+unsat_by_atom q j is_false (values, holds) = of (slice_get q.atoms j) refl is_false
   where
     of : (o : Option Atom) → slice_get q.atoms j ≡ o → IsSomeAnd o IsFalse → ⊥
     of None e k = absurd k
@@ -149,10 +166,7 @@ unsat_by_atom q j false (values, holds) = of (slice_get q.atoms j) refl false
         (subst (λ (a : Atom). AtomHolds a values) (get_or_from_slice_get q.atoms j atom atom e)
         (holds.atoms j atom (slice_get_within q.atoms j atom e)))
 
-pub right_unsat_atom : (budget : ℕ) (q : PlainCondition) (j : ℕ) (parts : List PlainPart) → HasLeastFalse q j
-    → parts ≡ [] → IsRightAnswer budget q (record { verdict = UnsatAtom j; parts = parts })
-right_unsat_atom budget q j parts h none = record {
-  classes = h.are.classes;
-  are = h.are.linked;
-  verdict = record { least = h.least; none_asked = none; unsatisfiable = unsat_by_atom q j h.least.is_false };
-}
+pub right_unsat_atom : (q : PlainCondition) (j : ℕ) (parts : List Reply) → HasLeastFalse q j → parts ≡ []
+    → IsUnsatAtom q j parts
+right_unsat_atom q j parts h none = record
+    { least = h.least; none_asked = none; unsatisfiable = unsat_by_atom q j h.least.is_false }

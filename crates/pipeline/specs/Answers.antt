@@ -1,92 +1,42 @@
 -- What is answered to a query, and when the answer is right.
-use Rattle.std.specs.Prelude.{◌≡◌, ℕ, ◌+◌, ◌<◌, ℤ, IsSomeAnd, Some, List, [], length, take}
+use Rattle.std.specs.Prelude.{◌≡◌, ◌⊎◌, ℕ, ◌+◌, ◌<◌, ◌≤◌, ℤ, true, false, IsSomeAnd, Some, List, [], length, take}
+use Rattle.std.specs.Prelude.{slice_index}
 use Rattle.std.specs.List.{All, AllZip, slice_get}
 use Rattle.lin_model.specs.Conditions.{PlainCondition, Holds, IsSatisfiable}
+use Rattle.lin_model.specs.Key.{IsKey}
 use Rattle.lin_model.specs.KeyAtom.{PlainKeyAtom}
+use Rattle.lin_model.specs.Terms.{value_at}
 use Rattle.slicer.specs.Slices.{PlainSlice, AreClasses}
 use Rattle.canoniser.specs.Keys.{IsKeyOf}
 use Rattle.canoniser.specs.Numbering.{order_of}
-use Rattle.canoniser.specs.Solutions.{IsFalseAt, point_of}
-use Rattle.refutation.specs.Tree.{PlainTree}
-use Rattle.refutation.specs.Reading.{HasNoPoint}
-use Rattle.refutation.specs.SearchTree.{IsOpenTree, room}
-use Rattle.refutation.specs.declared.leaf.LeafTerm.{LeafTerm}
-use Rattle.refutation.specs.declared.node.Node.{Node}
-use Rattle.box_solver.specs.Answer.{IsModelTree, IsRefutingTree}
-use Rattle.box_solver.specs.declared.found.Found.{Found}
-use Rattle.box_solver.specs.declared.found.Found.TheVariants.{Model as FoundModel, Refuted as FoundRefuted}
-use Rattle.box_solver.specs.declared.found.Found.TheVariants.{Spent as FoundSpent}
-use Rattle.pipeline.specs.declared.solving.Reply.{Reply}
-use Rattle.pipeline.specs.declared.solving.Reply.TheVariants.{Model, Refuted, Spent}
-use Rattle.pipeline.specs.declared.answer.Verdict.{Verdict}
-use Rattle.pipeline.specs.declared.answer.Verdict.TheVariants.{Sat, UnsatAtom, UnsatSlice, Unknown}
-use Rattle.pipeline.specs.declared.answer.PlainPart.{PlainPart}
-use Rattle.pipeline.specs.declared.answer.PlainPart.TheVariants.{Solved, Open}
-use Rattle.pipeline.specs.declared.answer.Plain.{Plain}
-
--- ---- one key
-
--- a search of at most the budget's splits comes to the point, which satisfies the key
-pub record IsModelOf (budget : ℕ) (key : List PlainKeyAtom) (point : List ℤ) : Type 0 where
-  pub nodes : List Node
-  pub terms : List LeafTerm
-  pub tree : IsModelTree key budget point nodes terms
-
--- a search of at most the budget's splits refutes the key, and no point satisfies it
-pub record IsRefuted (budget : ℕ) (key : List PlainKeyAtom) : Type 0 where
-  pub nodes : List Node
-  pub terms : List LeafTerm
-  pub tree : IsRefutingTree key budget nodes terms
-  pub none : HasNoPoint key
-
--- just the splits of the budget were spent, and they are fewer than the key has room for
-pub record IsSpentOn (budget : ℕ) (key : List PlainKeyAtom) (tree : PlainTree) : Type 0 where
-  pub open_tree : IsOpenTree key budget tree.nodes tree.terms
-  pub below_room : budget < room key
-
--- what a reply says of the key
-abbrev pub Replies : ℕ → List PlainKeyAtom → Reply → Type 0
-Replies budget key (Model point) = IsModelOf budget key point.items
-Replies budget key Refuted = IsRefuted budget key
-Replies budget key (Spent tree) = IsSpentOn budget key tree
-
--- the reply to what was found, where these nodes and terms were added to the region
-abbrev pub reply_to : Found → List Node → List LeafTerm → Reply
-reply_to (FoundModel point) nodes terms = Model point
-reply_to FoundRefuted nodes terms = Refuted
-reply_to FoundSpent nodes terms = Spent (record { nodes = nodes; terms = terms })
+use Rattle.canoniser.specs.Solutions.{IsFalseAt}
+use Rattle.refutation.specs.Boxed.{IsBoxed}
+use Rattle.cert_check.specs.declared.reply.Reply.{Reply}
+use Rattle.cert_check.specs.Asks.{AsksAll, SavesRightly}
+use Rattle.cert_check.specs.Decides.{IsFirst}
+use Rattle.cert_check.specs.Replies.{Stands, has_core, is_spent, point_in}
+use Rattle.cert_check.specs.Runs.{AsksInVain, HasWritten}
+use Rattle.cert_check.specs.Seats.{SeatState, entries_of}
+use Rattle.pipeline.specs.declared.answers.Answer.{Answer}
+use Rattle.pipeline.specs.declared.answers.Verdict.{Verdict}
+use Rattle.pipeline.specs.declared.answers.Verdict.TheVariants.{Sat, UnsatAtom, UnsatSlice, Unknown}
 
 -- ---- one slice
 
--- a search within the budget came to a model of the key of the slice
-pub record HasModel (budget : ℕ) (q : PlainCondition) (slice : PlainSlice) : Type 0 where
-  pub key : List PlainKeyAtom
+-- the key of the slice, which bounds each of its variables on both sides
+pub record IsKeyToAsk (q : PlainCondition) (slice : PlainSlice) (key : List PlainKeyAtom) : Type 0 where
   pub is_key : IsKeyOf q slice key
-  pub point : List ℤ
-  pub model : IsModelOf budget key point
+  pub limits : IsKey key
+  pub boxed : IsBoxed key
 
--- the values of the slice's variables are a model of its key to which a search within the budget came
-pub record IsGivenBy (budget : ℕ) (q : PlainCondition) (values : List ℤ) (slice : PlainSlice) : Type 0 where
-  pub key : List PlainKeyAtom
-  pub is_key : IsKeyOf q slice key
-  pub model : IsModelOf budget key (point_of (order_of q slice) values)
+-- each variable has the value that the point has at the variable's number in the key
+pub record GivesValues (order : List ℕ) (values point : List ℤ) : Type 0 where
+  pub wide : length order ≤ length point
+  pub each : (v : ℕ) → v < length order → value_at values (slice_index order v) ≡ value_at point v
 
--- a search within the budget refuted its key
-pub record HasNoModel (budget : ℕ) (q : PlainCondition) (slice : PlainSlice) : Type 0 where
-  pub key : List PlainKeyAtom
-  pub is_key : IsKeyOf q slice key
-  pub refuted : IsRefuted budget key
-
--- a search spent the budget on its key, and left this tree
-pub record IsLeftOpen (budget : ℕ) (q : PlainCondition) (slice : PlainSlice) (tree : PlainTree) : Type 0 where
-  pub key : List PlainKeyAtom
-  pub is_key : IsKeyOf q slice key
-  pub spent : IsSpentOn budget key tree
-
--- what a part says of a slice that isn't found to have no model
-abbrev pub Leaves : ℕ → PlainCondition → PlainSlice → PlainPart → Type 0
-Leaves budget q slice Solved = HasModel budget q slice
-Leaves budget q slice (Open tree) = IsLeftOpen budget q slice tree
+-- the reply has a point, and the slice's variables have their values from it
+abbrev pub IsGivenBy : PlainCondition → List ℤ → PlainSlice → Reply → Type 0
+IsGivenBy q values slice reply = IsSomeAnd (point_in reply) (GivesValues (order_of q slice) values)
 
 -- ---- a whole query
 
@@ -99,58 +49,93 @@ pub record IsLeastFalse (q : PlainCondition) (j : ℕ) : Type 0 where
   pub is_false : IsFalseAt q j
   pub least : (i : ℕ) → i < j → ¬ IsFalseAt q i
 
--- the part was left open
-abbrev pub IsOpen : PlainPart → Type 0
-IsOpen Solved = ⊥
-IsOpen (Open tree) = Unit {0}
+-- no reply has a core
+abbrev pub NoneHasCore : List Reply → Type 0
+NoneHasCore replies = All (λ reply. has_core reply ≡ false) replies
 
--- the part of number s is the first that was left open
-pub record IsFirstOpen (parts : List PlainPart) (s : ℕ) : Type 0 where
-  pub here : IsSomeAnd (slice_get parts s) IsOpen
-  pub before : (i : ℕ) → i < s → slice_get parts i ≡ Some Solved
+-- only the last reply may have one
+abbrev pub OnlyLastHasCore : List Reply → Type 0
+OnlyLastHasCore replies =
+    (s : ℕ) → IsSomeAnd (slice_get replies s) (λ reply. has_core reply ≡ true) → length replies ≡ s + 1
 
--- values that make the query hold as written; all slices were asked, and each gave its variables the values of its
--- model
-pub record IsSat (budget : ℕ) (q : PlainCondition) (classes : List PlainSlice) (values : List ℤ)
-    (parts : List PlainPart) : Type 0 where
+-- values that make the query hold as written; each slice was asked, and gave its variables the values of its entry
+pub record IsSat (q : PlainCondition) (classes : List PlainSlice) (values : List ℤ) (parts : List Reply) : Type 0 where
   pub none_false : NoneIsFalse q
   pub holds : Holds q values
-  pub given : All (IsGivenBy budget q values) classes
-  pub asked : length parts ≡ length classes
-  pub solved : All (λ part. part ≡ Solved) parts
+  pub given : AllZip (IsGivenBy q values) classes parts
 
--- the least atom without an integer solution; nothing was searched
-pub record IsUnsatAtom (q : PlainCondition) (j : ℕ) (parts : List PlainPart) : Type 0 where
+-- the least atom without an integer solution; nothing was asked
+pub record IsUnsatAtom (q : PlainCondition) (j : ℕ) (parts : List Reply) : Type 0 where
   pub least : IsLeastFalse q j
   pub none_asked : parts ≡ []
   pub unsatisfiable : ¬ IsSatisfiable q
 
--- the slices were asked up to and with this one, the first found that has no model
-pub record IsUnsatSlice (budget : ℕ) (q : PlainCondition) (classes : List PlainSlice) (s : ℕ)
-    (parts : List PlainPart) : Type 0 where
+-- the slices were asked up to and with this one, the first whose reply has a core
+pub record IsUnsatSlice (q : PlainCondition) (s : ℕ) (parts : List Reply) : Type 0 where
   pub none_false : NoneIsFalse q
   pub asked : length parts ≡ s + 1
-  pub before : AllZip (Leaves budget q) (take s classes) (take s parts)
-  pub last : slice_get parts s ≡ Some Solved
-  pub refuted : IsSomeAnd (slice_get classes s) (HasNoModel budget q)
+  pub before : NoneHasCore (take s parts)
+  pub last : IsSomeAnd (slice_get parts s) (λ reply. has_core reply ≡ true)
   pub unsatisfiable : ¬ IsSatisfiable q
 
--- all slices were asked, none was found to have no model, and this is the first that was left open
-pub record IsUnknown (budget : ℕ) (q : PlainCondition) (classes : List PlainSlice) (s : ℕ)
-    (parts : List PlainPart) : Type 0 where
+-- all slices were asked, no reply has a core, and this is the first whose reply has an open tree
+pub record IsUnknown (q : PlainCondition) (classes : List PlainSlice) (s : ℕ) (parts : List Reply) : Type 0 where
   pub none_false : NoneIsFalse q
-  pub left : AllZip (Leaves budget q) classes parts
-  pub first : IsFirstOpen parts s
+  pub asked : length parts ≡ length classes
+  pub no_core : NoneHasCore parts
+  pub first : IsFirst (λ reply. is_spent reply ≡ true) parts (Some s)
 
 -- what each verdict says
-abbrev pub IsRightVerdict : ℕ → PlainCondition → List PlainSlice → Verdict → List PlainPart → Type 0
-IsRightVerdict budget q classes (Sat values) parts = IsSat budget q classes values parts
-IsRightVerdict budget q classes (UnsatAtom j) parts = IsUnsatAtom q j parts
-IsRightVerdict budget q classes (UnsatSlice s) parts = IsUnsatSlice budget q classes s parts
-IsRightVerdict budget q classes (Unknown s) parts = IsUnknown budget q classes s parts
+abbrev pub IsRightVerdict : PlainCondition → List PlainSlice → Verdict → List Reply → Type 0
+IsRightVerdict q classes (Sat values) parts = IsSat q classes values parts
+IsRightVerdict q classes (UnsatAtom j) parts = IsUnsatAtom q j parts
+IsRightVerdict q classes (UnsatSlice s) parts = IsUnsatSlice q s parts
+IsRightVerdict q classes (Unknown s) parts = IsUnknown q classes s parts
 
--- a right verdict over the slices with variables, in their order
-pub record IsRightAnswer (budget : ℕ) (q : PlainCondition) (answer : Plain) : Type 0 where
+-- An answer over the slices with variables, in their order: one reply for each of the first of them, which stands, as
+-- `Standing` says, for the key of the slice; and a right verdict.
+pub record IsRightAnswer (Standing : List PlainKeyAtom → Reply → Type 0) (q : PlainCondition) (answer : Answer) : Type 0
+  where
+    pub classes : List PlainSlice
+    pub are : AreClasses q classes
+    pub keys : List (List PlainKeyAtom)
+    pub keyed : AllZip (IsKeyToAsk q) (take (length answer.parts) classes) keys
+    pub stand : AllZip Standing keys answer.parts
+    pub verdict : IsRightVerdict q classes answer.verdict answer.parts
+
+-- ---- a query that was answered
+
+-- it stands for what the seat has seen
+abbrev pub StandsAt : ℕ → SeatState → List PlainKeyAtom → Reply → Type 0
+StandsAt budget seat key reply = Stands seat.log (entries_of seat) seat.terms.number budget key reply
+
+-- The query was answered rightly, and the seat is left as by the asks of the answer's parts, in order, and by no other.
+pub record AnswersQuery (budget : ℕ) (q : PlainCondition) (answer : Answer) (old new : SeatState) : Type 0 where
+  pub right : IsRightAnswer (StandsAt budget new) q answer
+  pub asks : AsksAll budget right.keys answer.parts old new
+
+-- a front of the query's slices, and their keys
+pub record AreFirstKeys (q : PlainCondition) (keys : List (List PlainKeyAtom)) : Type 0 where
   pub classes : List PlainSlice
   pub are : AreClasses q classes
-  pub verdict : IsRightVerdict budget q classes answer.verdict answer.parts
+  pub keyed : AllZip (IsKeyToAsk q) (take (length keys) classes) keys
+
+-- Nothing is asked after a core: where a key was asked in vain no reply has one.
+pub record StopsAtCore (replies : List Reply) (mid new : SeatState) : Type 0 where
+  pub only_last : OnlyLastHasCore replies
+  pub no_more : (new ≡ mid) ⊎ NoneHasCore replies
+
+-- Memory ran out: before anything was asked, or while slices were asked in order. Where some atom is satisfied by no
+-- integers nothing was asked.
+pub record AnswersInVain (budget : ℕ) (q : PlainCondition) (old new : SeatState) : Type 0 where
+  pub none_false : (new ≡ old) ⊎ NoneIsFalse q
+  pub keys : List (List PlainKeyAtom)
+  pub first : AreFirstKeys q keys
+  pub asks : AsksInVain budget keys old new
+  pub stops : StopsAtCore asks.replies asks.mid new
+
+-- An answer that is right, with the writes of the journal: what its parts say of their saves is so.
+pub record IsRightWithSaves (budget : ℕ) (seat : SeatState) (q : PlainCondition) (answer : Answer) : Type 0 where
+  pub right : IsRightAnswer (StandsAt budget seat) q answer
+  pub save : All (SavesRightly seat.terms) answer.parts
+  pub written : All (HasWritten seat) answer.parts

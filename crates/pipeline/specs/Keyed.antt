@@ -3,6 +3,7 @@ use Rattle.std.specs.Prelude.{ℕ, ◌≤◌, min, nat_lt, if◌then◌else◌, 
 use Rattle.std.specs.Prelude.{length, Contains}
 use Rattle.std.specs.List.{All, AllZip, slice_get}
 use Rattle.lin_model.specs.Conditions.{PlainCondition}
+use Rattle.lin_model.specs.Key.{IsKey}
 use Rattle.lin_model.specs.Truth.{AtomHolds, IsAssignment}
 use Rattle.slicer.specs.Slices.{PlainSlice, AreSlices}
 use Rattle.slicer.specs.Names.{NamesNothingAt}
@@ -22,12 +23,18 @@ HoldsAt q values j = IsSomeAnd (slice_get q.atoms j) (λ atom. AtomHolds atom va
 abbrev pub IsKeyed : PlainCondition → PlainSlice → SliceKey → Type 0
 IsKeyed q slice k = IsCanonised q slice k.back k.key
 
+-- the key keeps the limits of its type
+abbrev pub KeepsKeyLimits : SliceKey → Type 0
+KeepsKeyLimits k = IsKey k.key
+
 -- each atom is satisfied by some integers, those without variables hold, and these are the keys of the slices with
--- variables
+-- variables, at most 64 and within their limits
 pub record AreKeyed (q : PlainCondition) (keys : List SliceKey) : Type 0 where
   pub slices : List PlainSlice
   pub are : AreSlices q slices
   pub each : AllZip (IsKeyed q) are.classes keys
+  pub few : length keys ≤ 64
+  pub limits : All KeepsKeyLimits keys
   pub none_false : NoneIsFalse q
   pub variable_free : (values : List ℤ) → IsAssignment q.vars values → (j : ℕ) → NamesNothingAt q.atoms j
       → HoldsAt q values j

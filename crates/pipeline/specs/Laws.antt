@@ -1,40 +1,52 @@
 -- What right answers keep.
-use Rattle.std.specs.Prelude.{◌≡◌, ◌≢◌, ℕ, ◌≤◌, List, length, take}
+use Rattle.std.specs.Prelude.{◌≡◌, ◌≢◌, ℕ, ◌≤◌, false, List, length, take}
 use Rattle.std.specs.List.{All}
 use Rattle.lin_model.specs.Conditions.{PlainCondition, IsCondition}
 use Rattle.lin_model.specs.KeyAtom.{PlainKeyAtom}
 use Rattle.slicer.specs.Slices.{PlainSlice, AreClasses}
 use Rattle.canoniser.specs.Keys.{IsKeyOf}
 use Rattle.refutation.specs.SearchTree.{room}
-use Rattle.pipeline.specs.declared.answer.Verdict.TheVariants.{Unknown}
-use Rattle.pipeline.specs.declared.answer.PlainPart.TheVariants.{Solved}
-use Rattle.pipeline.specs.declared.answer.Plain.{Plain}
-use Rattle.pipeline.specs.Answers.{IsRightAnswer}
+use Rattle.cert_check.specs.declared.entry.Entry.{Entry}
+use Rattle.cert_check.specs.Asks.{EachKeyCanBeAsked, IsReady}
+use Rattle.cert_check.specs.Machine.{Turn}
+use Rattle.cert_check.specs.Replies.{Stands, is_spent}
+use Rattle.cert_check.specs.Seats.{SeatState}
+use Rattle.pipeline.specs.declared.answers.Answer.{Answer}
+use Rattle.pipeline.specs.declared.answers.Verdict.TheVariants.{Unknown}
+use Rattle.pipeline.specs.Answers.{AnswersQuery, IsRightAnswer, IsRightWithSaves}
 
--- some answer is right
-pub record HasRightAnswer (budget : ℕ) (q : PlainCondition) : Type 0 where
-  pub answer : Plain
-  pub right : IsRightAnswer budget q answer
+-- some answer to the query is lawful, and leaves a seat of which keys can be asked
+pub record HasAnswer (budget : ℕ) (q : PlainCondition) (seat : SeatState) : Type 0 where
+  pub answer : Answer
+  pub later : SeatState
+  pub answers : AnswersQuery budget q answer seat later
+  pub ready : IsReady later
 
--- every query has a right answer, whatever the budget
+-- where each key can be asked, each query has an answer
 abbrev pub EachHasAnswer : Type 0
-EachHasAnswer = (budget : ℕ) (q : PlainCondition) → IsCondition q → HasRightAnswer budget q
+EachHasAnswer = (budget : ℕ) (q : PlainCondition) (seat : SeatState) → EachKeyCanBeAsked budget → IsCondition q
+    → IsReady seat → HasAnswer budget q seat
+
+-- an answer is right with its saves
+abbrev pub AnswersAreRight : Type 0
+AnswersAreRight = (budget : ℕ) (q : PlainCondition) (answer : Answer) (old new : SeatState)
+    → AnswersQuery budget q answer old new → IsRightWithSaves budget new q answer
 
 -- the key of the slice has no more room than the budget
 abbrev pub HasRoomWithin : ℕ → PlainCondition → PlainSlice → Type 0
 HasRoomWithin budget q slice = (key : List PlainKeyAtom) → IsKeyOf q slice key → room key ≤ budget
 
 -- the budget is at least the room of the key of each slice that was asked: the first slices, one for each part
-abbrev pub Suffices : ℕ → PlainCondition → Plain → Type 0
+abbrev pub Suffices : ℕ → PlainCondition → Answer → Type 0
 Suffices budget q answer = (classes : List PlainSlice) → AreClasses q classes
     → All (HasRoomWithin budget q) (take (length answer.parts) classes)
 
--- each slice that was asked was solved, and the query isn't unknown
-pub record IsDecided (answer : Plain) : Type 0 where
-  pub solved : All (λ part. part ≡ Solved) answer.parts
+-- each slice that was asked was decided, and the query isn't unknown
+pub record IsDecided (answer : Answer) : Type 0 where
+  pub decided : All (λ part. is_spent part ≡ false) answer.parts
   pub told : (s : ℕ) → answer.verdict ≢ Unknown s
 
 -- a budget that suffices decides the query
 abbrev pub SufficientDecides : Type 0
-SufficientDecides = (budget : ℕ) (q : PlainCondition) (answer : Plain) → IsRightAnswer budget q answer
-    → Suffices budget q answer → IsDecided answer
+SufficientDecides = (log : List Turn) (entries : List Entry) (seat budget : ℕ) (q : PlainCondition) (answer : Answer)
+    → IsRightAnswer (Stands log entries seat budget) q answer → Suffices budget q answer → IsDecided answer

@@ -1,65 +1,39 @@
-//! Asking the slices of a query.
-ghost use Rattle.std.specs.Prelude.{◌≡◌, ◌≤◌, IfOk};
-ghost use Rattle.pipeline.specs.Keyed.{AreKeyed};
-ghost use Rattle.pipeline.specs.Answers.{IsRightAnswer};
+//! Asking the keys of a query's slices.
+ghost use Rattle.std.specs.Prelude.{◌≡◌, IfOk, OnErr};
+ghost use Rattle.std.specs.List.{All};
+ghost use Rattle.refutation.specs.Boxed.{IsBoxed};
+ghost use Rattle.pipeline.specs.Asking.{AsksUpToCore, StopsInVain};
 
-use crate::answer::{Plain, PlainPart, Verdict};
-use crate::model::place;
 use crate::slice_keys::SliceKey;
-use crate::solving::{Reply, solve_key};
-use box_solver::TreeRegion;
-use lin_model::Condition;
+use cert_check::{Reply, SliceOracle, asks_join};
 use outside::NoMemory;
-use slicer::slices_are_a_partition;
 use sqlite_items::Items;
 use std::alloc::Global;
 
-/// Asks the slices in order, up to and with the first that has no model.
-pub fn ask_all(
+/// Asks the keys of the slices in order, up to and with the first whose reply has a core. The replies come in that
+/// order.
+pub fn ask_keys<O: SliceOracle>(
     alloc: Global,
-    query: &Condition,
-    keys: &[SliceKey],
-    budget: u32,
-    region: &mut TreeRegion,
-) -> Result<Plain, NoMemory>
-    requires keyed { AreKeyed query.now keys.now }
-    requires some { 1 ≤ budget }
-    requires few { budget ≤ 100000 }
-    ensures answer { IfOk result (IsRightAnswer budget query.now) }
-    ensures region { region.new ≡ region.old }
+    slices: &[SliceKey],
+    oracle: &mut O,
+) -> Result<Items<Reply>, NoMemory>
+    requires { All (λ slice. IsBoxed slice.key) slices.now }
+    ensures asks { IfOk result (λ replies.
+        AsksUpToCore (O.budget oracle.old) slices.now replies (O.seat oracle.old) (O.seat oracle.new)) }
+    ensures in_vain { OnErr result
+        (StopsInVain (O.budget oracle.old) slices.now (O.seat oracle.old) (O.seat oracle.new)) }
+    ensures budget { O.budget oracle.new ≡ O.budget oracle.old }
+    ensures origin { O.origin oracle.new ≡ O.origin oracle.old }
 {
-    slices_are_a_partition();
-    let mut parts = Items::new(alloc);
-    let mut open = None;
-    let mut values = vec![in alloc; 0; query.vars().len()]?;
-    for (s, slice) in keys.iter().enumerate() {
-        let number = s as u32;
-        match solve_key(alloc, &slice.key, budget, region)? {
-            Reply::Model(point) => {
-                place(&mut values, &slice.back, &point);
-                parts.push(PlainPart::Solved)?;
-            }
-            Reply::Refuted => {
-                parts.push(PlainPart::Solved)?;
-                return Ok(Plain {
-                    verdict: Verdict::UnsatSlice(number),
-                    parts,
-                });
-            }
-            Reply::Spent(tree) => {
-                parts.push(PlainPart::Open(tree))?;
-                open = Some(open.unwrap_or(number));
-            }
+    asks_join();
+    let mut replies = Items::new(alloc);
+    for slice in slices {
+        let reply = oracle.ask(&slice.key)?;
+        let has_core = reply.has_core();
+        replies.push(reply)?;
+        if has_core {
+            return Ok(replies);
         }
     }
-    if let Some(s) = open {
-        return Ok(Plain {
-            verdict: Verdict::Unknown(s),
-            parts,
-        });
-    }
-    Ok(Plain {
-        verdict: Verdict::Sat(Items::from_vec(values)),
-        parts,
-    })
+    Ok(replies)
 }

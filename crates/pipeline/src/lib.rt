@@ -1,14 +1,16 @@
 //! Answers to whole queries, by their slices.
 #![tactic(auto)]
 
-mod answer;
+mod answers;
 mod asking;
 mod laws;
 mod model;
 mod query;
 mod slice_keys;
-mod solving;
+mod verdicts;
 
-pub use answer::{Plain, PlainPart, Verdict};
-pub use laws::{answers_exist, sufficient_budgets_decide};
-pub use query::answer_query;
+pub use answers::{Answer, Verdict};
+pub use laws::{
+    answering_keeps_answers, answers_are_right, answers_exist, sufficient_budgets_decide,
+};
+pub use query::answer;

@@ -3,7 +3,8 @@ ghost use Rattle.std.specs.Prelude.{◌≡◌, [], ◌∷◌, ◌++◌, IfOk, On
 ghost use Rattle.std.specs.List.{AllZip};
 ghost use Rattle.slicer.specs.Slices.{AreSlices};
 ghost use Rattle.canoniser.specs.Answers.{Canonises};
-ghost use Rattle.pipeline.specs.Keyed.{IsKeyedQuery, HasKey, IsLeastFalseAmong, keys_in, least_with};
+ghost use Rattle.pipeline.specs.Keyed.{IsKeyedQuery, HasKey, KeepsKeyLimits, IsLeastFalseAmong};
+ghost use Rattle.pipeline.specs.Keyed.{keys_in, least_with};
 
 use canoniser::{Back, Canonical, canonise};
 use lin_model::{Condition, Key};
@@ -83,7 +84,8 @@ fn least_with(least: Option<u32>, canonical: &Canonical) -> Option<u32>
 
 /// The keys of the slices with variables.
 fn with_variables(alloc: Global, canonicals: Vec<Canonical>) -> Result<Vec<SliceKey>, NoMemory>
-    ensures { IfOk result (λ keys. keys.items ≡ keys_in canonicals.items) }
+    ensures keys { IfOk result (λ keys. keys.items ≡ keys_in canonicals.items) }
+    ensures limits { IfOk result (λ keys. All KeepsKeyLimits keys.items) }
 {
     let mut keys = Vec::new(alloc);
     for canonical in canonicals {
@@ -94,9 +96,11 @@ fn with_variables(alloc: Global, canonicals: Vec<Canonical>) -> Result<Vec<Slice
 
 /// Adds the key of a slice with variables.
 fn push_key(keys: &mut Vec<SliceKey>, canonical: Canonical) -> Result<(), NoMemory>
-    ensures { OnOk result (keys.new.items ≡ keys.old.items ++ keys_in (canonical ∷ [])) }
+    ensures keys { OnOk result (keys.new.items ≡ keys.old.items ++ keys_in (canonical ∷ [])) }
+    ensures limits { OnOk result (All KeepsKeyLimits (keys_in (canonical ∷ []))) }
 {
     if let Canonical::Key { key, back } = canonical {
+        key.keeps_limits();
         if back.width() > 0 {
             keys.push(SliceKey { key, back })?;
         }

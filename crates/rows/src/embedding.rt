@@ -2,12 +2,12 @@
 //! `crates.txt`:
 //!
 //! ```text
-//! verdicts: lin_model lin_text pipeline box_solver outside sqlite_items
+//! verdicts: lin_model lin_text cert_check shared_store pipeline outside sqlite_items
 //! ```
-use box_solver::TreeRegion;
 use lin_text::{TextFault, read_query};
 use outside::NoMemory;
-use pipeline::{Verdict, answer_query};
+use pipeline::{Verdict, answer};
+use shared_store::LocalStore;
 use std::alloc::Global;
 use std::test::Fail;
 
@@ -43,8 +43,8 @@ fn verdict_on(alloc: Global, text: &str) -> Result<Verdict, Refusal> {
     if end < text.len() {
         return Err(Refusal::Behind(end));
     }
-    let mut region = TreeRegion::reserve(alloc, BUDGET)?;
-    let answer = answer_query(alloc, &condition, BUDGET, &mut region)?;
+    let mut store = LocalStore::start(alloc, BUDGET)?;
+    let answer = answer(alloc, &condition, &mut store)?;
     Ok(answer.verdict)
 }
 

@@ -91,14 +91,14 @@ pub fn expect_query(
     expect_text(rt, line, text.as_str(), (status, answers.as_str()))
 }
 
-/// The session of one query with these lines.
+/// The session of one executor, whose first query has these lines; further ones may begin among them.
 pub fn session_of(alloc: Global, lines: &str) -> Result<String, AllocError> {
     format!(in alloc; "green 1\nexecutor\nquery\n{lines}end\n")
 }
 
-/// The answers text with this line alone.
-fn answers_of(alloc: Global, line: &str) -> Result<String, AllocError> {
-    format!(in alloc; "green answers 1\nexecutor\n{line}\nend\n")
+/// The answers text of one executor with these lines; further executors may begin among them.
+pub fn answers_of(alloc: Global, lines: &str) -> Result<String, AllocError> {
+    format!(in alloc; "green answers 1\nexecutor\n{lines}\nend\n")
 }
 
 /// A row of a table: what is expected, and behind the first colon the text of which it is, in which a semicolon stands

@@ -15,6 +15,8 @@ mod memory;
 #[cfg(test)]
 mod queries;
 #[cfg(test)]
+mod reuse;
+#[cfg(test)]
 mod sessions;
 #[cfg(test)]
 mod sources;

@@ -84,7 +84,7 @@ sat x=0 [new 0]:var x 0 9;3 <= 3;
 unsat atom 1:var x 0 9;var y 0 9;2*x - 2*y = 1;
 unsat atom 2:var x 0 9;var y 0 9;0 <= 1;2*x - 2*y = 1;
 unsat atom 1:var x 0 9;x - x != 0;
-sat x=0 y=0 [new 0] [new 1]:var x 0 9;var y 0 9;
+sat x=0 y=0 [new 0] [hit 0]:var x 0 9;var y 0 9;
 sat x=0 y=2 [new 0] [new 1]:var x 0 9;var y 0 9;y >= 2;
 unsat slice 2 [new 0] [new 1]:var a 0 9;var b 0 9;var c 0 9;var d 0 9;a < b;c < d;d < c;
 unsat slice 1 [new 0]:var a 0 9;var b 0 9;var c 5 5;a >= 10;b >= 10;

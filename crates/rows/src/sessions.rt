@@ -1,10 +1,11 @@
 //! Worked sessions from bytes to bytes.
 use crate::fixtures::{ANSWERS, SESSION, expect_query, expect_text, push_numbered, run, source_of};
+use cert_check::Reply;
 use green_cli::Report;
 use lin_model::Condition;
 use lin_text::write_query;
 use outside::MemSink;
-use pipeline::{PlainPart, Verdict};
+use pipeline::Verdict;
 use std::alloc::{AllocError, Global};
 use std::process::Abort;
 use std::test::Fail;
@@ -37,7 +38,7 @@ fn only_model(report: &Report) -> Option<(&Condition, &[i64])> {
     let answers = only(report.answers.as_slice())?;
     let answer = only(answers.as_slice())?;
     match (&answer.verdict, only(answer.parts.as_slice())?) {
-        (Verdict::Sat(values), PlainPart::Solved) => Some((query, values.as_slice())),
+        (Verdict::Sat(values), Reply::Solved { .. }) => Some((query, values.as_slice())),
         _ => None,
     }
 }
@@ -76,7 +77,7 @@ fn queries_are_answered_within_their_budget(rt: HostRuntime) -> Result<(), Fail>
     expect_query(&rt, "solve|--budget|8", equal, (0, "sat x=1 y=1 [new 0]"))
 }
 
-/// Each place is the number of parts that were solved before in the whole session.
+/// Each place is that of an entry among those of the whole session.
 #[test]
 fn executors_and_queries_are_answered_in_order(rt: HostRuntime) -> Result<(), Fail> {
     expect_in_turn(&rt, "green 1\nend\n", "green answers 1\nend\n")?;

@@ -1,5 +1,7 @@
-//! What the tests of texts share: rows of tables, and pieces that are repeated.
+//! What the tests of texts share: rows of tables, pieces that are repeated, and reads.
+use outside::{Failed, Source};
 use std::alloc::{AllocError, Global};
+use std::process::Abort;
 use std::test::Fail;
 
 /// A row of a table: what is expected, and behind the first colon the text of which it is, in which a semicolon stands
@@ -29,4 +31,14 @@ pub fn repeated(
     push_repeated(&mut text, piece, count)?;
     text.push_str(back)?;
     Ok(text)
+}
+
+/// Expects this of the next read.
+pub fn expect_read<S: Source>(
+    rt: &(impl Abort + AllocGlobal),
+    source: &mut S,
+    buf: &mut [u8],
+    want: Result<usize, Failed>,
+) {
+    assert_eq!(rt; source.read(buf), want);
 }

@@ -1,5 +1,6 @@
 //! What no clause says of the streams of a process: which errors of a reader or a writer are faults.
-use outside::{Failed, Sink, Source, StdSink, StdSource};
+use crate::fixtures::expect_read;
+use outside::{Failed, Sink, StdSink, StdSource};
 use std::io;
 use std::io::{ErrorKind, Read, Write};
 use std::test::Fail;
@@ -54,11 +55,11 @@ fn a_read_goes_on_after_a_signal_and_fails_at_any_other_error(rt: HostRuntime) -
     let mut buf = [0u8; 2];
     let failing = Some(ErrorKind::Interrupted);
     let mut source = StdSource::new(Reader { failing });
-    assert_eq!(rt; source.read(&mut buf), Ok(1));
+    expect_read(&rt, &mut source, &mut buf, Ok(1));
     let failing = Some(ErrorKind::WouldBlock);
     let mut source = StdSource::new(Reader { failing });
-    assert_eq!(rt; source.read(&mut buf), Err(Failed));
-    assert_eq!(rt; source.read(&mut buf), Ok(1));
+    expect_read(&rt, &mut source, &mut buf, Err(Failed));
+    expect_read(&rt, &mut source, &mut buf, Ok(1));
     assert_eq!(rt; buf, [7, 0]);
     Ok(())
 }

@@ -1,12 +1,11 @@
-use Rattle.std.proofs.Common.{◌*◌, ◌≤◌, take}
-use Rattle.std.specs.List.{AllZip}
-use Rattle.pipeline.specs.Answers.{IsRightAnswer}
-use Rattle.green_cli.specs.AnswersText.{solved_count}
+use Rattle.std.proofs.Common.{◌≡◌, take}
+use Rattle.pipeline.specs.Runs.{AnswersAll}
 use Rattle.green_cli.proofs.answering.answer_script.Given as goal
 
 -- the queries up to here are answered
 abbrev pub invariant-loop-query : goal.invariant-loop-query
-invariant-loop-query l = record {
-  right : AllZip (λ q answer. IsRightAnswer l.budget q answer) (take l.query-index l.queries) l.answers;
-  few : solved_count l.answers ≤ 64 * l.query-index;
+invariant-loop-query g l = record {
+  run : AnswersAll (g.O.SliceOracle.budget l.fn.oracle) (take l.query-index l.queries) l.answers
+      (g.O.SliceOracle.seat l.fn.oracle) (g.O.SliceOracle.seat l.oracle);
+  budget : g.O.SliceOracle.budget l.oracle ≡ g.O.SliceOracle.budget l.fn.oracle;
 }

@@ -6,7 +6,7 @@ returns c = answers_exist record {
   slices = c.slices_exist.ensures;
   parts = c.slices_are_a_partition.ensures;
   canonicals = c.keys_exist.ensures;
-  answers = c.answers_exist.ensures;
   boxed = c.bounded_keys_are_boxed.ensures;
-  no_point = c.refuted_keys_have_no_point.ensures;
+  keep = c.asking_keeps_replies.ensures;
+  settle = c.replies_settle.ensures;
 }

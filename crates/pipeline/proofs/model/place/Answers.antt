@@ -33,8 +33,10 @@ loop-v-preserved c =
     }
 
 pub returns-clause-placed : goal.returns-clause-placed
-returns-clause-placed c = λ v lt. c.loop-v.invariant.placed v
-    (omega (arith, lt, c.loop-v-test.false, c.width-v-end.ensures.width))
+returns-clause-placed c = record {
+  wide = c.requires.wide;
+  each = λ v lt. c.loop-v.invariant.placed v (omega (arith, lt, c.loop-v-test.false, c.width-v-end.ensures.width));
+}
 
 pub returns-clause-others : goal.returns-clause-others
 returns-clause-others c = c.loop-v.invariant.others

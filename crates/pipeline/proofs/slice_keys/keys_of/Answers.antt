@@ -3,7 +3,7 @@ use Rattle.std.specs.List.{All, AllZip}
 use Rattle.slicer.specs.Slices.{PlainSlice}
 use Rattle.canoniser.specs.declared.canonical.Canonical.{Canonical}
 use Rattle.canoniser.specs.Answers.{Canonises}
-use Rattle.pipeline.specs.Keyed.{HasKey, IsLeastFalseAmong, AreKeyed}
+use Rattle.pipeline.specs.Keyed.{HasKey, KeepsKeyLimits, IsLeastFalseAmong, AreKeyed}
 use Rattle.pipeline.proofs.SliceLemmas.{least_is_false, keys_are_keyed}
 use Rattle.pipeline.proofs.slice_keys.keys_of.Goals as goal
 
@@ -32,6 +32,8 @@ returns c =
     (c.in_ok-canonicals.ensures {u = tt}) in
     let keys : All HasKey cs =
     subst (λ (xs : List Canonical). All HasKey xs) c.deref-2.ensures.value (c.in_default.ensures {u = tt}) in
-    subst (AreKeyed c.args.query.now) (sym (c.in_ok-with_variables.ensures {u = tt}))
+    let made = c.in_ok-with_variables.ensures {u = tt} in
+    subst (AreKeyed c.args.query.now) (sym made.keys)
     (keys_are_keyed c.args.query.now c.in_ok-slices.slices.items cs c.slices_are_a_partition.ensures
-    c.keeps_limits.ensures.fits (c.in_ok-slices.ensures {u = tt}) zip keys)
+    c.keeps_limits.ensures.fits (c.in_ok-slices.ensures {u = tt}) zip keys
+    (subst (All KeepsKeyLimits) made.keys made.limits))
