@@ -1,0 +1,19 @@
+-- The prints of a key's atoms.
+use Rattle.std.specs.Prelude.{◌≡◌, ℕ, pos, All, List, [], map}
+use Rattle.lin_model.specs.declared.op.Op.TheVariants.{Le}
+use Rattle.lin_model.specs.KeyAtom.{PlainKeyAtom}
+use Rattle.key_tree.specs.declared.print.Print.{Print}
+use Rattle.key_tree.specs.Prints.{hash_of, needs_of, form_bit, IsWithin}
+
+-- the hash of the atom's form, and what has to be among the bits of whatever implies the atom
+abbrev pub print_of : PlainKeyAtom → Print
+print_of a = record { hash = hash_of a.form; needs = needs_of a }
+
+-- what is asked: each atom has its print, and the mask has the bit of each print's form
+pub record IsAsked (key : List PlainKeyAtom) (prints : List Print) (forms : ℕ) : Type 0 where
+  pub printed : prints ≡ map print_of key
+  pub formed : All (λ print. IsWithin (form_bit print.hash) forms) prints
+
+-- what stands for an atom where there is none
+abbrev pub no_atom : PlainKeyAtom
+no_atom = record { form = []; op = Le; constant = pos 0 }

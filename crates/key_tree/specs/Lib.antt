@@ -1,0 +1,12 @@
+pub mod Prints
+pub mod MaskFacts
+pub mod Places
+pub mod Tree
+pub mod Held
+pub mod Asked
+pub mod Walks
+pub mod Growth
+pub mod Laws
+pub mod Found
+pub mod FromRoot
+pub mod Loops

@@ -1,0 +1,29 @@
+//! Prints of atoms.
+ghost use Rattle.std.specs.Prelude.{◌≡◌};
+ghost use Rattle.key_tree.specs.Asked.{print_of};
+
+use crate::mask::{hash_of, needs_bit};
+use lin_model::KeyAtom;
+
+/// What a walk looks at before it looks at an atom that is asked.
+#[derive(Clone, Copy, Debug, Default)]
+pub struct Print {
+    /// The hash of the atom's form. Atoms of one form have one hash.
+    pub hash: u32,
+    /// A mask that is within the mask of each atom that implies this one.
+    pub needs: u64,
+}
+
+impl Print {
+    /// The print of an atom.
+    #[tactic(auto, unfolding(crate::specs::Prints::needs_of))]
+    pub fn of(atom: &KeyAtom) -> Print
+        ensures { result ≡ print_of atom.now }
+    {
+        let hash = hash_of(atom.form());
+        Print {
+            hash,
+            needs: needs_bit(hash, atom.op()),
+        }
+    }
+}

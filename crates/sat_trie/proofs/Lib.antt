@@ -1,0 +1,5 @@
+mod AnyLemmas
+mod CoverLemmas
+mod WantedLemmas
+mod BranchLemmas
+mod WalkLemmas

@@ -1,0 +1,2 @@
+mod CoverLemmas
+mod BranchLemmas
