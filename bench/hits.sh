@@ -32,7 +32,7 @@ session() {
         }'
 }
 
-# Each entry is tried in turn, so a session that solves 100,000 queries would take an hour.
+# A session that solves 100,000 queries would take several minutes.
 for case in "90 1000" "90 10000" "90 100000" "10 1000" "10 10000"; do
     share=${case% *}
     count=${case#* }

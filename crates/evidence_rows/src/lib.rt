@@ -10,4 +10,6 @@ mod searches;
 #[cfg(test)]
 mod trees;
 #[cfg(test)]
+mod tries;
+#[cfg(test)]
 mod versions;

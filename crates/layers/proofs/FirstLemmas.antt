@@ -67,7 +67,7 @@ module _ (layers : List (List Entry)) (i start n : ℕ) (layer : List Entry) (q 
       (none_up_to (length layer) (omega arith) here)
 
 -- what none of the first n entries decides, none does that stands before n
-none_at : (n : ℕ) (entries : List Entry) (q : List PlainKeyAtom) → NoneDecides (take n entries) q → (k : ℕ) (d : Entry)
+pub none_at : (n : ℕ) (entries : List Entry) (q : List PlainKeyAtom) → NoneDecides (take n entries) q → (k : ℕ) (d : Entry)
     → k < n → k < length entries → ¬ Decides (get_or entries k d) q
 none_at n entries q none k d below lt =
     subst (λ (e : Entry). ¬ Decides e q) (get_or-take n entries k d below)

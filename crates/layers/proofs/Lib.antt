@@ -1,3 +1,6 @@
 mod JoinLemmas
 mod HalvingLemmas
 mod FirstLemmas
+mod PairLemmas
+mod LeastLemmas
+mod NodeLemmas

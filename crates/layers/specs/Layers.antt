@@ -11,7 +11,7 @@ abbrev pub joined : List (List Entry) → List Entry
 joined [] = []
 joined (layer ∷ layers) = layer ++ joined layers
 
--- none of the entries from place n up to place m decides the key
+-- none of the entries from place n up to place m, which is at most their number, decides the key
 abbrev pub NoneBetween : List Entry → List PlainKeyAtom → ℕ → ℕ → Type 0
 NoneBetween entries q n m = (k : ℕ) (d : Entry) → n ≤ k → k < m → ¬ Decides (slice_index_or entries k d) q
 

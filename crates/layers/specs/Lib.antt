@@ -1,2 +1,4 @@
 pub mod Layers
+pub mod Tries
+pub mod Least
 pub mod Halving

@@ -1,39 +1,58 @@
 //! One layer of a list of entries.
-ghost use Rattle.std.specs.Prelude.{◌≡◌, ◌↔◌, ◌<◌, ◌≤◌, [], Some, IsTrue, length, slice_get};
+ghost use Rattle.std.specs.Prelude.{◌≡◌, ◌↔◌, ◌+◌, ◌*◌, ◌^◌, ◌<◌, ◌≤◌, ℕ, [], Some, IfOk, IsSomeAnd, IsTrue, length, slice_get, take};
 ghost use Rattle.cert_check.specs.Machine.{max_entries};
+ghost use Rattle.cert_check.specs.Decides.{NoneDecides};
 ghost use Rattle.layers.specs.Layers.{IsFirstFrom};
+ghost use Rattle.layers.specs.Tries.{satisfied_keys, cores, LayerHasNodes};
 
+use crate::tries::{core_trie, lesser, satisfied_trie};
 use atom_implies::Steps;
 use cert_check::{Entry, Shared, decides};
+use key_tree::Asked;
 use lin_model::Key;
+use outside::NoMemory;
+use sat_trie::SatTrie;
+use std::alloc::Global;
 use std::marker::Model;
 use std::sync::ledger::Ledger;
+use unsat_trie::UnsatTrie;
 
-/// At most 2^20 entries, in their order.
+/// At most 2^20 entries, in their order, with a trie of the keys that are satisfied and one of the cores.
 #[derive(Drop)]
 pub struct Layer {
     entries: Vec<Shared<Entry>>,
+    satisfied: SatTrie,
+    refuted: UnsatTrie,
 }
 
 impl Model for Layer {
-    ghost use Rattle.std.specs.Prelude.{List, ◌≤◌, length};
+    ghost use Rattle.std.specs.Prelude.{List, ◌≡◌, ◌≤◌, length};
     ghost use Rattle.cert_check.specs.declared.entry.Entry.{Entry};
     ghost use Rattle.cert_check.specs.Machine.{max_entries};
+    ghost use Rattle.layers.specs.Tries.{satisfied_keys, cores};
 
     ghost Value = { List Entry };
 
     ghost view = { λ layer. layer.entries.items };
 
-    ghost invariant = { λ layer. length layer.entries.items ≤ max_entries };
+    ghost invariant = { λ layer. (length layer.entries.items ≤ max_entries)
+        × (layer.satisfied ≡ satisfied_keys 0 layer.entries.items)
+        × (layer.refuted ≡ cores 0 layer.entries.items) };
 }
 
 impl Layer {
     /// The layer of these entries, at most 2^20.
-    pub fn of(entries: Vec<Shared<Entry>>) -> Layer
+    pub fn of(alloc: Global, entries: Vec<Shared<Entry>>) -> Result<Layer, NoMemory>
         requires { length entries.items ≤ max_entries }
-        ensures { result ≡ entries.items }
+        ensures { IfOk result (λ layer. layer ≡ entries.items) }
     {
-        Layer { entries }
+        let satisfied = satisfied_trie(alloc, &entries)?;
+        let refuted = core_trie(alloc, &entries)?;
+        Ok(Layer {
+            entries,
+            satisfied,
+            refuted,
+        })
     }
 
     /// The entries, in their order.
@@ -59,8 +78,41 @@ impl Layer {
         self.entries.is_empty()
     }
 
-    /// The least place at or after n, from 0, of an entry that decides the key.
-    pub fn first_from<L: Ledger>(&self, n: u32, key: &Key, steps: &mut Steps<L>) -> Option<u32>
+    /// How many lists, other than the empty one, are prefixes of the satisfied keys, and how many of the cores, together.
+    pub fn nodes(&self) -> u64
+        ensures nodes { LayerHasNodes self.now result }
+        ensures few { result < 2 ^ 33 }
+    {
+        self.satisfied.nodes() + self.refuted.nodes()
+    }
+
+    /// The least place at or after n, from 0, of an entry that decides the key. The tries are walked; only where they
+    /// find one before n are the entries from n on tried one after another. So where none before n decides the key, it
+    /// takes at most `nodes()` steps for each of its atoms.
+    pub fn first_from<L: Ledger>(&self, n: u32, asked: &Asked, steps: &mut Steps<L>) -> Option<u32>
+        ensures first { IsFirstFrom n self.now asked.now result }
+        ensures cost { NoneDecides (take n self.now) asked.now → (nodes : ℕ) → LayerHasNodes self.now nodes
+            → steps.new ≤ steps.old + nodes * length asked.now }
+    {
+        let first = self.first(asked, steps);
+        if is_before(first, n) {
+            return self.scan_from(n, asked.key(), steps);
+        }
+        first
+    }
+
+    /// The least place of an entry that decides the key.
+    fn first<L: Ledger>(&self, asked: &Asked, steps: &mut Steps<L>) -> Option<u32>
+        ensures first { IsFirstFrom 0 self.now asked.now result }
+        ensures cost { (nodes : ℕ) → LayerHasNodes self.now nodes → steps.new ≤ steps.old + nodes * length asked.now }
+    {
+        let satisfied = self.satisfied.first_for(asked, steps);
+        let refuted = self.refuted.first_for(asked, steps);
+        lesser(satisfied, refuted)
+    }
+
+    /// The least place at or after n of an entry that decides the key, each entry being tried in turn.
+    fn scan_from<L: Ledger>(&self, n: u32, key: &Key, steps: &mut Steps<L>) -> Option<u32>
         ensures { IsFirstFrom n self.now key.now result }
     {
         for place in n..self.len() {
@@ -77,5 +129,15 @@ impl Layer {
         ensures { slice_get self.now place ≡ Some result.now }
     {
         self.entries[place as usize].get()
+    }
+}
+
+/// Whether there is a place, and it is before n.
+fn is_before(place: Option<u32>, n: u32) -> bool
+    ensures { IsTrue result ↔ IsSomeAnd place (λ p. p < n) }
+{
+    match place {
+        Some(place) => place < n,
+        None => false,
     }
 }

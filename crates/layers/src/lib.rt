@@ -3,6 +3,7 @@
 
 mod laws;
 mod layer;
+mod tries;
 mod version;
 
 pub use laws::later_firsts_are_first;

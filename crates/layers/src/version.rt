@@ -2,23 +2,25 @@
 ghost use Rattle.std.specs.Prelude.{◌≡◌, ◌+◌, ◌*◌, ◌<◌, ◌≤◌, [], ◌∷◌, ◌++◌, Some, IfOk, OnOk, length, take, drop};
 ghost use Rattle.std.specs.Prelude.{slice_get};
 ghost use Rattle.std.specs.Prelude.{slice_index_or, ℕ, List};
-ghost use Rattle.cert_check.specs.Decides.{IsFirstDeciding};
+ghost use Rattle.cert_check.specs.Decides.{IsFirstDeciding, NoneDecides};
 ghost use Rattle.cert_check.specs.Machine.{max_entries};
 ghost use Rattle.cert_check.specs.declared.entry.Entry.{Entry as AnyEntry};
 ghost use Rattle.layers.specs.Layers.{IsFirstFrom, joined};
+ghost use Rattle.layers.specs.Tries.{LayersHaveNodes};
 ghost use Rattle.layers.specs.Halving.{AreHalving, IsVersion, IsWithinDigits};
 
 use crate::layer::Layer;
 use atom_implies::Steps;
 use cert_check::{Entry, Shared};
+use key_tree::Asked;
 use lin_model::Key;
 use outside::NoMemory;
 use std::alloc::Global;
 use std::marker::Model;
 use std::sync::ledger::Ledger;
 
-/// A list of at most 2^20 entries that never changes, in layers that versions share. Each layer is at least twice as
-/// long as the next, so there are no more layers than the length has binary digits.
+/// A list of at most 2^20 entries that never changes, in layers that versions share, each with its tries. Each layer is at
+/// least twice as long as the next, so there are no more layers than the length has binary digits.
 #[derive(Drop)]
 pub struct Version {
     layers: Vec<Shared<Layer>>,
@@ -46,7 +48,7 @@ impl Version {
         let len = entries.len() as u32;
         let mut layers = Vec::new(alloc);
         if len > 0 {
-            layers.push(Shared::new(alloc, Layer::of(entries))?)?;
+            layers.push(Shared::new(alloc, Layer::of(alloc, entries)?)?)?;
         }
         Ok(Version { layers, len })
     }
@@ -96,18 +98,32 @@ impl Version {
         entries_of(alloc, &self.layers)
     }
 
-    /// The least place, from 0, of an entry that decides the key.
+    /// How many lists, other than the empty one, are prefixes of satisfied keys, and how many of cores, each layer counted
+    /// by itself.
+    pub fn nodes(&self) -> u64
+        ensures { LayersHaveNodes self.now result }
+    {
+        nodes_of(&self.layers)
+    }
+
+    /// The least place, from 0, of an entry that decides the key. It takes at most `nodes()` steps for each atom of the
+    /// key, and no memory.
     pub fn first<L: Ledger>(&self, key: &Key, steps: &mut Steps<L>) -> Option<u32>
-        ensures { IsFirstDeciding (joined self.now) key.now result }
+        ensures first { IsFirstDeciding (joined self.now) key.now result }
+        ensures cost { (nodes : ℕ) → LayersHaveNodes self.now nodes → steps.new ≤ steps.old + nodes * length key.now }
     {
         self.first_from(0, key, steps)
     }
 
-    /// The least place at or after n of an entry that decides the key.
+    /// The least place at or after n of an entry that decides the key. It takes no memory, and where none before n
+    /// decides the key, at most `nodes()` steps for each of its atoms.
     pub fn first_from<L: Ledger>(&self, n: u32, key: &Key, steps: &mut Steps<L>) -> Option<u32>
-        ensures { IsFirstFrom n (joined self.now) key.now result }
+        ensures first { IsFirstFrom n (joined self.now) key.now result }
+        ensures cost { NoneDecides (take n (joined self.now)) key.now → (nodes : ℕ) → LayersHaveNodes self.now nodes
+            → steps.new ≤ steps.old + nodes * length key.now }
     {
-        first_in(&self.layers, n, key, steps)
+        let asked = Asked::of(key);
+        first_in(&self.layers, n, &asked, steps)
     }
 }
 
@@ -121,20 +137,35 @@ fn count_of(layers: &[Shared<Layer>]) -> u32
     layers.len() as u32
 }
 
+/// How many prefixes the layers have, each by itself, all together.
+fn nodes_of(layers: &[Shared<Layer>]) -> u64
+    requires halving { AreHalving layers.now }
+    requires few { length (joined layers.now) ≤ max_entries }
+    ensures { LayersHaveNodes layers.now result }
+{
+    let mut nodes = 0;
+    for layer in layers {
+        nodes += layer.get().nodes();
+    }
+    nodes
+}
+
 /// The least place at or after n of an entry of the layers that decides the key.
 fn first_in<L: Ledger>(
     layers: &[Shared<Layer>],
     n: u32,
-    key: &Key,
+    asked: &Asked,
     steps: &mut Steps<L>,
 ) -> Option<u32>
     requires { length (joined layers.now) ≤ max_entries }
-    ensures { IsFirstFrom n (joined layers.now) key.now result }
+    ensures first { IsFirstFrom n (joined layers.now) asked.now result }
+    ensures cost { NoneDecides (take n (joined layers.now)) asked.now → (nodes : ℕ) → LayersHaveNodes layers.now nodes
+        → steps.new ≤ steps.old + nodes * length asked.now }
 {
     let mut start = 0;
     for layer in layers {
         let layer = layer.get();
-        if let Some(place) = layer.first_from(n.saturating_sub(start), key, steps) {
+        if let Some(place) = layer.first_from(n.saturating_sub(start), asked, steps) {
             return Some(start + place);
         }
         start += layer.len();
@@ -204,7 +235,7 @@ fn joined_with(
 {
     let mut entries = entries_of(alloc, layers)?;
     entries.push(entry)?;
-    Ok(Layer::of(entries))
+    Layer::of(alloc, entries)
 }
 
 /// One owner more of each entry of these layers.

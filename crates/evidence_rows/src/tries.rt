@@ -1,0 +1,124 @@
+//! Tries of satisfied keys and of cores, on keys whose answers were reckoned by hand.
+ghost use Rattle.std.specs.Prelude.{◌≡◌, ◌+◌, ◌<◌, ◌≤◌};
+
+use crate::fixtures::{DIFFERENCE, SUM, VARIABLE, atom, key_of};
+use atom_implies::Steps;
+use lin_model::{FormTerm, Key, Op};
+use sat_trie::SatTrie;
+use std::alloc::Global;
+use std::marker::Brand;
+use std::process::Abort;
+use std::sync::ledger::{Blank, Ledger};
+use std::test::Fail;
+use unsat_trie::UnsatTrie;
+
+/// `form <= most` and `form >= least`.
+fn between(alloc: Global, form: &[FormTerm], most: i64, least: i64) -> Result<Key, Fail> {
+    let mut atoms = Vec::new(alloc);
+    atoms.push(atom(alloc, form, Op::Le, most)?)?;
+    atoms.push(atom(alloc, form, Op::Ge, least)?)?;
+    key_of(atoms)
+}
+
+/// `form <= most`.
+fn at_most(alloc: Global, form: &[FormTerm], most: i64) -> Result<Key, Fail> {
+    let mut atoms = Vec::new(alloc);
+    atoms.push(atom(alloc, form, Op::Le, most)?)?;
+    key_of(atoms)
+}
+
+/// `v0 <= 3` and `v0 >= 3` under 0, `v0 <= 3` and `v0 >= 2` under 1: three nodes.
+fn satisfied(alloc: Global) -> Result<SatTrie, Fail> {
+    let mut trie = SatTrie::new(alloc);
+    let equal = between(alloc, &VARIABLE, 3, 3)?;
+    trie.insert(&equal, 0)?;
+    let wider = between(alloc, &VARIABLE, 3, 2)?;
+    trie.insert(&wider, 1)?;
+    Ok(trie)
+}
+
+/// `v0 - v1 <= -1` and `v0 - v1 >= 1` under 0: two nodes.
+fn refuted(alloc: Global) -> Result<UnsatTrie, Fail> {
+    let mut trie = UnsatTrie::new(alloc);
+    let crossed = between(alloc, &DIFFERENCE, -1, 1)?;
+    trie.insert(&crossed, 0)?;
+    Ok(trie)
+}
+
+/// The first that a trie of three nodes finds for a key of at most two atoms, in at most six steps.
+fn first_of_three<L: Ledger>(
+    trie: &SatTrie,
+    key: &Key,
+    steps: &mut Steps<L>,
+) -> Result<Option<u32>, Fail>
+    ensures { steps.new ≤ steps.old + 6 }
+{
+    if trie.nodes() != 3 || key.atoms().len() > 2 {
+        return Err(Fail::from("three nodes and two atoms"));
+    }
+    Ok(trie.first(key, steps))
+}
+
+/// The first that a trie of two nodes finds for a key of at most three atoms, in at most six steps.
+fn first_of_two<L: Ledger>(
+    trie: &UnsatTrie,
+    key: &Key,
+    steps: &mut Steps<L>,
+) -> Result<Option<u32>, Fail>
+    ensures { steps.new ≤ steps.old + 6 }
+{
+    if trie.nodes() != 2 || key.atoms().len() > 3 {
+        return Err(Fail::from("two nodes and three atoms"));
+    }
+    Ok(trie.first(key, steps))
+}
+
+#[test]
+fn the_least_number_is_found_in_few_steps(rt: HostRuntime) -> Result<(), Fail> {
+    try_satisfied::<Brand>(&rt, Blank::new(1))
+}
+
+#[test]
+fn cores_are_found_by_what_implies_them(rt: HostRuntime) -> Result<(), Fail> {
+    try_refuted::<Brand>(&rt, Blank::new(1))
+}
+
+/// `v0 <= 5` and `v0 >= 2` is covered by both keys, of which the one that sorts last has the least number. `v0 <= 2` is
+/// covered by neither.
+fn try_satisfied<L: Ledger>(rt: &(impl Abort + AllocGlobal), blank: Blank) -> Result<(), Fail>
+    requires name { blank.name ≡ L.name }
+    requires parts { blank.parts ≡ L.parts }
+    requires some { 0 < blank.parts }
+{
+    let mut steps: Steps<L> = Steps::new(blank);
+    let trie = satisfied(rt.alloc())?;
+    let wide = between(rt.alloc(), &VARIABLE, 5, 2)?;
+    assert_eq!(rt; first_of_three(&trie, &wide, &mut steps)?, Some(0));
+    let narrow = at_most(rt.alloc(), &VARIABLE, 2)?;
+    assert_eq!(rt; first_of_three(&trie, &narrow, &mut steps)?, None);
+    Ok(())
+}
+
+/// The core is covered by tighter atoms, whatever stands beside them, and not by one of its own alone.
+fn try_refuted<L: Ledger>(rt: &(impl Abort + AllocGlobal), blank: Blank) -> Result<(), Fail>
+    requires name { blank.name ≡ L.name }
+    requires parts { blank.parts ≡ L.parts }
+    requires some { 0 < blank.parts }
+{
+    let mut steps: Steps<L> = Steps::new(blank);
+    let trie = refuted(rt.alloc())?;
+    let beside = tighter(rt.alloc())?;
+    assert_eq!(rt; first_of_two(&trie, &beside, &mut steps)?, Some(0));
+    let alone = at_most(rt.alloc(), &DIFFERENCE, -1)?;
+    assert_eq!(rt; first_of_two(&trie, &alone, &mut steps)?, None);
+    Ok(())
+}
+
+/// Atoms tighter than those of the core, and one beside them.
+fn tighter(alloc: Global) -> Result<Key, Fail> {
+    let mut atoms = Vec::new(alloc);
+    atoms.push(atom(alloc, &DIFFERENCE, Op::Le, -7)?)?;
+    atoms.push(atom(alloc, &DIFFERENCE, Op::Ge, 5)?)?;
+    atoms.push(atom(alloc, &SUM, Op::Le, 3)?)?;
+    key_of(atoms)
+}
