@@ -123,7 +123,7 @@ branch_from from next (a ∷ atoms) number (suc j) d lt =
 -- each place but the last has one kid, and no number
 pub place_links : (next : ℕ) (atoms : List PlainKeyAtom) (number j : ℕ) (d : PlainPlace) (e : PlainKeyAtom)
     → j + 1 < length atoms → get_or (places_of_chain next atoms number) j d
-    ≡ record { kids = chain_kid (next + (j + 1)) (get_or atoms (j + 1) e) number ∷ []; number = None; below = 0 }
+    ≡ record { kids = chain_kid (next + (j + 1)) (get_or atoms (j + 1) e) number ∷ []; masks = 0 ∷ []; number = None; below = 0 }
 unfolding places_of_chain
 place_links next [] number j d e lt = absurd (omega (arith, lt))
 place_links next (a ∷ []) number j d e lt = absurd (omega (arith, lt))
@@ -133,13 +133,13 @@ place_links next (a ∷ b ∷ atoms) number (suc j) d e lt =
     let at : j + 1 ≡ suc j = omega arith in
     let more : suc j + 1 ≡ suc (suc j) = omega arith in
     place_links (next + 1) (b ∷ atoms) number j d e (omega arith)
-    ∙ (ap (λ (n : ℕ). record { kids = chain_kid n (get_or (b ∷ atoms) (j + 1) e) number ∷ []; number = None; below = 0 }) same
-    ∙ (ap (λ (i : ℕ). record { kids = chain_kid (next + (suc j + 1)) (get_or (b ∷ atoms) i e) number ∷ []; number = None; below = 0 }) at
-    ∙ ap (λ (i : ℕ). record { kids = chain_kid (next + (suc j + 1)) (get_or (a ∷ b ∷ atoms) i e) number ∷ []; number = None; below = 0 }) (sym more)))
+    ∙ (ap (λ (n : ℕ). record { kids = chain_kid n (get_or (b ∷ atoms) (j + 1) e) number ∷ []; masks = 0 ∷ []; number = None; below = 0 }) same
+    ∙ (ap (λ (i : ℕ). record { kids = chain_kid (next + (suc j + 1)) (get_or (b ∷ atoms) i e) number ∷ []; masks = 0 ∷ []; number = None; below = 0 }) at
+    ∙ ap (λ (i : ℕ). record { kids = chain_kid (next + (suc j + 1)) (get_or (a ∷ b ∷ atoms) i e) number ∷ []; masks = 0 ∷ []; number = None; below = 0 }) (sym more)))
 
 -- the last has the number, and no kid
 pub place_last : (next : ℕ) (atoms : List PlainKeyAtom) (number j : ℕ) (d : PlainPlace) → j + 1 ≡ length atoms
-    → get_or (places_of_chain next atoms number) j d ≡ record { kids = []; number = Some number; below = 0 }
+    → get_or (places_of_chain next atoms number) j d ≡ record { kids = []; masks = []; number = Some number; below = 0 }
 unfolding places_of_chain
 place_last next [] number j d is = absurd (omega (arith, is))
 place_last next (a ∷ []) number zero d is = refl

@@ -1,12 +1,10 @@
 -- The number under which a key itself is held.
-use Rattle.std.proofs.Common.{◌≡◌, ℕ, ◌+◌, ◌<◌, ◌≤◌, ◌∙◌, List, ◌∷◌, ◌++◌, Option, Some, None, length, take, drop, get_or}
-use Rattle.std.proofs.Common.{inl, inr, arith, refl, sym, ap, subst}
-use Rattle.std.specs.Prelude.{All, Any, Contains, IsSomeAnd, IfSome}
+use Rattle.std.proofs.Common.{◌≡◌, ℕ, ◌+◌, ◌<◌, ◌≤◌, ◌∙◌, List, ◌∷◌, ◌++◌, Option, Some, None, length, drop, get_or}
+use Rattle.std.proofs.Common.{inl, inr, refl, sym, ap, subst}
+use Rattle.std.specs.Prelude.{Contains, IsSomeAnd, IfSome}
 use Rattle.std.proofs.lemmas.Bool.{cases_lt}
 use Rattle.std.proofs.lemmas.List.{take-append-drop, take_all, drop_more, get_or_default}
 use Rattle.lin_model.specs.KeyAtom.{PlainKeyAtom}
-use Rattle.lin_model.specs.AtomOrder.{compare_atoms}
-use Rattle.key_tree.specs.declared.kid.Kid.{Kid}
 use Rattle.key_tree.specs.declared.front.Front.{Front}
 use Rattle.key_tree.specs.Tree.{PlainTree, Pair, IsTree, Holds, way_to, place_at, pairs_of, no_branch}
 use Rattle.key_tree.specs.Held.{IsLeastOf}

@@ -9,9 +9,10 @@ use Rattle.key_tree.specs.declared.held.Held.{Held}
 use Rattle.key_tree.specs.declared.kid.Kid.{Kid}
 use Rattle.key_tree.specs.Places.{PlainPlace, no_place, with_number}
 use Rattle.key_tree.specs.Prints.{gives_of, IsWithin}
-use Rattle.key_tree.specs.Tree.{PlainTree, Pair, IsTree, HasParent, IsNumbered, IsMasked, AreKidsOf, way_to, place_at, branch_to, pairs_of}
+use Rattle.key_tree.specs.Tree.{PlainTree, Pair, IsTree, HasParent, IsNumbered, IsMasked, AreKidsOf, AreMasksOf, way_to, place_at, branch_to, pairs_of}
 use Rattle.key_tree.proofs.PairLemmas.{AddsPair, kids_stay, number_stays, number_new, least_stays}
 use Rattle.key_tree.proofs.PlaceLemmas.{ways_apart}
+use Rattle.key_tree.proofs.KidMaskLemmas.{masks_stay}
 
 -- the tree in which the way to a place came to be held
 abbrev pub holding : PlainTree → ℕ → ℕ → PlainTree
@@ -54,6 +55,14 @@ module _ (tree : PlainTree) (place number : ℕ) (keeps : IsTree tree) (within :
     | inl same ↦ subst (λ (q : ℕ). (place_at (holding tree place number) q).below ≡ (place_at tree q).below) (sym same)
         (ap (λ (q : PlainPlace). q.below) there)
     | inr other ↦ ap (λ (q : PlainPlace). q.below) (elsewhere p other)
+  ]
+
+  -- those of kids too
+  masks_same : (p : ℕ) → (place_at (holding tree place number) p).masks ≡ (place_at tree p).masks
+  masks_same p = elim (cases_eq p place) [
+    | inl same ↦ subst (λ (q : ℕ). (place_at (holding tree place number) q).masks ≡ (place_at tree q).masks) (sym same)
+        (ap (λ (q : PlainPlace). q.masks) there)
+    | inr other ↦ ap (λ (q : PlainPlace). q.masks) (elsewhere p other)
   ]
 
   -- one pair more is held
@@ -115,6 +124,16 @@ module _ (tree : PlainTree) (place number : ℕ) (keeps : IsTree tree) (within :
             (subst (λ (m : ℕ). IsWithin (place_at tree p).below m) (sym (below_same from)) mask.behind);
       }
 
+  -- those of kids are right
+  masks_held : (p : ℕ) → p < length tree.places → AreMasksOf (holding tree place number)
+      (place_at (holding tree place number) p).kids (place_at (holding tree place number) p).masks
+  masks_held p lt =
+      subst (λ (kids : List Kid). AreMasksOf (holding tree place number) kids (place_at (holding tree place number) p).masks)
+      (sym (kids_same p))
+      (subst (λ (masks : List ℕ). AreMasksOf (holding tree place number) (place_at tree p).kids masks) (sym (masks_same p))
+      (masks_stay tree (holding tree place number) (place_at tree p).kids (place_at tree p).masks (keeps.masks p lt)
+      (λ k d _. below_same (get_or (place_at tree p).kids k d).place)))
+
   -- so it is a tree
   pub holding_is_tree : IsTree (holding tree place number)
   holding_is_tree = record {
@@ -125,6 +144,7 @@ module _ (tree : PlainTree) (place number : ℕ) (keeps : IsTree tree) (within :
     least = λ p some lt. let old : p < length tree.places = omega (arith, length_held, lt) in
         least_stays tree (holding tree place number) (way_to tree place) number adds_pair p old (keeps.least p some old);
     masked = λ p some lt. masked_held p some (omega (arith, length_held, lt));
+    masks = λ p lt. masks_held p (omega (arith, length_held, lt));
     held = subst (λ (n : ℕ). All (λ h. h.place < n) (holding tree place number).held) (sym length_held)
         (All-push (λ (h : Held). h.place < length tree.places) tree.held (record { place = place; number = number })
         keeps.held within);

@@ -93,7 +93,8 @@ module _ (old : PlainTree) (key left : List PlainKeyAtom) (front : Front) (next 
       subst (λ (bs : List Branch). MayWiden bs places held.place) (sym branches_grown)
       (subst (λ (ps : List PlainPlace). MayWiden
       (grown_branches old front.place left number) ps held.place) (sym places_grown)
-      (may_widen old front.place front.at first left held.place number j.keeps j.is_front.within some_left last_is))
+      (may_widen old front.place front.at first left held.place number j.keeps j.is_front.within some_left last_is
+      position.within))
 
   -- and then the tree grew
   pub joined_grew : (wide : List PlainPlace) (pairs : List Held) → AreSameButMasks places wide → AreMasked branches wide

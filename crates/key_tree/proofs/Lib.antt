@@ -4,6 +4,7 @@ mod PrintLemmas
 mod FormLemmas
 mod WayLemmas
 mod PlaceLemmas
+mod KidMaskLemmas
 mod PlaceMaskLemmas
 mod PrefixLemmas
 mod WalkLemmas

@@ -1,6 +1,8 @@
 -- Facts on lists, whatever they hold: elements that differ pairwise, and how many they are.
 use Rattle.std.proofs.Common.{◌≡◌, ℕ, zero, suc, ◌<◌, ◌≤◌, List, [], ◌∷◌, ◌++◌, length, get_or, refl, sym}
-use Rattle.std.proofs.Common.{ap, ◌∙◌, ◌==◌, ◌≢◌, arith}
+use Rattle.std.proofs.Common.{ap, subst, ◌∙◌, ◌==◌, ◌≢◌, ◌+◌, ◌-◌, take, drop, inl, inr, arith}
+use Rattle.std.proofs.lemmas.Bool.{cases_lt, cases_eq}
+use Rattle.std.proofs.lemmas.List.Edits.{length-insert, get_or-insert_at, get_or-insert_below, get_or-insert_above}
 use Rattle.std.specs.List.{All, AllPairs, IsDistinct, Contains}
 use Rattle.std.proofs.lemmas.Bool.Decides.{Decides-eqb}
 use Rattle.std.proofs.lemmas.List.{get_or_default}
@@ -26,6 +28,22 @@ AllPairs-append {X} R (x ∷ xs) ys these those across =
     AllPairs-cons R x (xs ++ ys)
     (All-append (R x) xs ys (AllPairs-first R x xs these) (All-head (λ (y : X). All (R y) ys) x xs across))
     (AllPairs-append R xs ys (AllPairs-tail R x xs these) those (All-tail (λ (y : X). All (R y) ys) x xs across))
+
+-- what holds of all elements and of one more holds of all where that one is put among them
+pub All-put : {X : Type 0} (P : X → Type 0) (xs : List X) (at : ℕ) (x : X) → at ≤ length xs → All P xs → P x
+    → All P (take at xs ++ x ∷ drop at xs)
+All-put P xs at x within all one k d lt = elim (cases_lt k at) [
+  | inl before ↦ subst P (sym (get_or-insert_below xs at x d k before within)) (all k d (omega (arith, before, within)))
+  | inr upto ↦ elim (cases_eq k at) [
+    | inl same ↦ subst (λ (i : ℕ). P (get_or (take at xs ++ x ∷ drop at xs) i d)) (sym same)
+        (subst P (sym (get_or-insert_at xs at x d within)) one)
+    | inr other ↦
+        let e : k - 1 + 1 ≡ k = omega arith in
+        subst (λ (i : ℕ). P (get_or (take at xs ++ x ∷ drop at xs) i d)) e
+        (subst P (sym (get_or-insert_above xs at x d (k - 1) (omega arith) within))
+        (all (k - 1) d (omega (arith, length-insert xs at x within, lt))))
+  ]
+]
 
 -- numbers that differ, joined with numbers that differ from them and from one another
 pub distinct-append : (xs ys : List ℕ) → IsDistinct ◌==◌ xs → IsDistinct ◌==◌ ys → All (λ x. All (λ y. x ≢ y) ys) xs

@@ -9,7 +9,7 @@ use Rattle.key_tree.specs.declared.kid.Kid.{Kid}
 use Rattle.key_tree.specs.declared.front.Front.{Front}
 use Rattle.key_tree.specs.Places.{PlainPlace, no_place}
 use Rattle.key_tree.specs.Prints.{hash_of, gives_of, IsWithin}
-use Rattle.key_tree.specs.Tree.{PlainTree, way_to, place_at, branch_to}
+use Rattle.key_tree.specs.Tree.{PlainTree, AreMasksOf, way_to, place_at, branch_to}
 use Rattle.key_tree.specs.Walks.{kid_atom}
 
 -- this kid of the place has the atom
@@ -44,8 +44,9 @@ branches_of_chain from next (a ∷ atoms) number =
 
 -- the place where they begin
 abbrev pub place_before_chain : ℕ → List PlainKeyAtom → ℕ → PlainPlace
-place_before_chain next [] number = record { kids = []; number = Some number; below = 0 }
-place_before_chain next (a ∷ atoms) number = record { kids = chain_kid next a number ∷ []; number = None; below = 0 }
+place_before_chain next [] number = record { kids = []; masks = []; number = Some number; below = 0 }
+place_before_chain next (a ∷ atoms) number =
+    record { kids = chain_kid next a number ∷ []; masks = 0 ∷ []; number = None; below = 0 }
 
 -- the places to which they lead
 unfoldable pub places_of_chain : ℕ → List PlainKeyAtom → ℕ → List PlainPlace
@@ -77,6 +78,15 @@ abbrev pub IsAtomMasked : PlainTree → ℕ → Type 0
 IsAtomMasked tree place =
     IsWithin (gives_of (branch_to tree place).atom) (place_at tree (branch_to tree place).from).below
 
+-- each kid's mask has all of the mask of its place
+abbrev pub AreKidsMasked : PlainTree → ℕ → Type 0
+AreKidsMasked tree place = AreMasksOf tree (place_at tree place).kids (place_at tree place).masks
+
+-- a place that isn't the root, to which a branch leads from this place
+pub record LeadsFrom (branches : List Branch) (place kid : ℕ) : Type 0 where
+  pub some : 0 < kid
+  pub from : (branch_to (bare branches []) kid).from ≡ place
+
 -- masks are right but for the atoms on the way to the last place, of which the new ones are a chain from place `next` on
 pub record MayWiden (branches : List Branch) (places : List PlainPlace) (last : ℕ) : Type 0 where
   pub sized : length places ≡ length branches + 1
@@ -86,11 +96,15 @@ pub record MayWiden (branches : List Branch) (places : List PlainPlace) (last : 
   pub chain : (p : ℕ) → next < p → p < length places → (branch_to (bare branches places) p).from + 1 ≡ p
   pub atoms : (p : ℕ) → 0 < p → p < next → p < length places → IsAtomMasked (bare branches places) p
   pub behind : (p : ℕ) → 0 < p → p < length places → IsBehindMasked (bare branches places) p
+  pub kids : (p : ℕ) → p < length places → AreKidsMasked (bare branches places) p
+  pub leads : (p k : ℕ) (d : Kid) → p < length places → k < length (slice_index_or places p no_place).kids
+      → LeadsFrom branches p (slice_index_or (slice_index_or places p no_place).kids k d).place
 
 -- all masks are right
 pub record AreMasked (branches : List Branch) (places : List PlainPlace) : Type 0 where
   pub atoms : (p : ℕ) → 0 < p → p < length places → IsAtomMasked (bare branches places) p
   pub behind : (p : ℕ) → 0 < p → p < length places → IsBehindMasked (bare branches places) p
+  pub kids : (p : ℕ) → p < length places → AreKidsMasked (bare branches places) p
 
 -- places are the same but for their masks
 pub record AreSameButMasks (olds news : List PlainPlace) : Type 0 where

@@ -96,6 +96,13 @@ pub record IsMasked (tree : PlainTree) (place : ℕ) : Type 0 where
   pub atom : IsWithin (gives_of (branch_to tree place).atom) (place_at tree (branch_to tree place).from).below
   pub behind : IsWithin (place_at tree place).below (place_at tree (branch_to tree place).from).below
 
+-- The masks of the kids of a place: one for each kid, which has all of the mask of the place that the kid leads to. So a
+-- walk can tell that nothing behind that place counts before it looks at it.
+pub record AreMasksOf (tree : PlainTree) (kids : List Kid) (masks : List ℕ) : Type 0 where
+  pub counts : length masks ≡ length kids
+  pub have : (k : ℕ) (d : Kid) (m : ℕ) → k < length kids
+      → IsWithin (place_at tree (slice_index_or kids k d).place).below (slice_index_or masks k m)
+
 -- What a tree keeps. Each place but the root has one branch, from an older place, whose kid it is; so each place has a way
 -- of its own. There are no more places than numbers of 32 bits.
 pub record IsTree (tree : PlainTree) : Type 0 where
@@ -105,6 +112,7 @@ pub record IsTree (tree : PlainTree) : Type 0 where
   pub numbered : (p : ℕ) → p < length tree.places → IsNumbered tree p
   pub least : (p : ℕ) → 0 < p → p < length tree.places → IsLeastBehind tree p
   pub masked : (p : ℕ) → 0 < p → p < length tree.places → IsMasked tree p
+  pub masks : (p : ℕ) → p < length tree.places → AreMasksOf tree (place_at tree p).kids (place_at tree p).masks
   pub few : length tree.places ≤ 2 ^ 32
   pub held : All (λ h. h.place < length tree.places) tree.held
   pub numbers : All (λ h. h.number < 2 ^ 32) tree.held

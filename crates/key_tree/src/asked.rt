@@ -2,19 +2,19 @@
 ghost use Rattle.std.specs.Prelude.{◌≡◌, ◌<◌, ◌≤◌, length, map, All, IsTrue, slice_index_or};
 ghost use Rattle.lin_model.specs.Key.{IsKey};
 ghost use Rattle.key_tree.specs.Prints.{hash_of, form_bit as bit_of_form, IsWithin};
-ghost use Rattle.key_tree.specs.Asked.{print_of, no_atom};
+ghost use Rattle.key_tree.specs.Asked.{atom_hash, print_of, no_atom};
 
-use crate::mask::{form_bit, is_within};
+use crate::mask::{form_bit, hash_of as form_hash, is_within};
 use crate::print::Print;
 use arrayvec::ArrayVec;
 use lin_model::{Key, KeyAtom};
 use std::marker::Model;
 
-/// A key that is looked up, the prints of its atoms and a mask of their forms, which are made once for all walks.
+/// A key that is looked up, the hashes of its forms and a mask of them, which are made once for all walks.
 #[derive(Drop)]
 pub struct Asked<'a> {
     key: &'a Key,
-    prints: ArrayVec<Print, 384>,
+    hashes: ArrayVec<u32, 384>,
     forms: u64,
 }
 
@@ -27,20 +27,20 @@ impl<'a> Model for Asked<'a> {
 
     ghost view = { λ asked. asked.key.now };
 
-    ghost invariant = { λ asked. IsAsked asked.key.now asked.prints.items asked.forms };
+    ghost invariant = { λ asked. IsAsked asked.key.now asked.hashes.items asked.forms };
 }
 
 impl<'a> Asked<'a> {
-    /// The key, with its prints.
+    /// The key, with the hashes of its forms.
     pub fn of(key: &'a Key) -> Asked<'a>
         ensures { result ≡ key.now }
     {
-        let mut prints = ArrayVec::new();
+        let mut hashes = ArrayVec::new();
         for atom in key.atoms() {
-            prints.push(Print::of(atom));
+            hashes.push(form_hash(atom.form()));
         }
-        let forms = forms_of(&prints);
-        Asked { key, prints, forms }
+        let forms = forms_of(&hashes);
+        Asked { key, hashes, forms }
     }
 
     /// The atoms that are asked, at most 384, in their order.
@@ -51,11 +51,11 @@ impl<'a> Asked<'a> {
         self.key.atoms()
     }
 
-    /// The print of each atom.
-    pub fn prints(&self) -> &[Print]
-        ensures { result.now ≡ map print_of self.now }
+    /// The hash of the form of each atom.
+    pub fn hashes(&self) -> &[u32]
+        ensures { result.now ≡ map atom_hash self.now }
     {
-        &self.prints
+        &self.hashes
     }
 
     /// Whether an atom of a form with this hash may be asked. The answer is no only where none is.
@@ -88,23 +88,32 @@ impl<'a> Asked<'a> {
         &self.key.atoms()[usize::from(place)]
     }
 
+    /// The hash of its form.
+    pub fn hash(&self, place: u16) -> u32
+        requires { place < length self.now }
+        ensures { result ≡ atom_hash (slice_index_or self.now place no_atom) }
+    {
+        self.hashes[usize::from(place)]
+    }
+
     /// Its print.
     pub fn print(&self, place: u16) -> Print
         requires { place < length self.now }
         ensures print { result ≡ print_of (slice_index_or self.now place no_atom) }
         ensures few { length self.now ≤ 384 }
     {
-        self.prints[usize::from(place)]
+        let hash = self.hashes[usize::from(place)];
+        Print::of(self.atom(place), hash)
     }
 }
 
-/// The bits of the forms of these prints.
-fn forms_of(prints: &[Print]) -> u64
-    ensures { All (λ print. IsWithin (bit_of_form print.hash) result) prints.now }
+/// The bits of the forms with these hashes.
+fn forms_of(hashes: &[u32]) -> u64
+    ensures { All (λ hash. IsWithin (bit_of_form hash) result) hashes.now }
 {
     let mut forms = 0;
-    for print in prints {
-        forms |= form_bit(print.hash);
+    for hash in hashes {
+        forms |= form_bit(*hash);
     }
     forms
 }

@@ -14,7 +14,7 @@ ghost use Rattle.std.specs.Prelude.{
   slice_index_or,
 };
 ghost use Rattle.std.specs.Vec.{vec_capacity};
-ghost use Rattle.key_tree.specs.Places.{no_place, with_kid, with_number, with_mask};
+ghost use Rattle.key_tree.specs.Places.{no_place, with_kid, with_number, AreWidened};
 ghost use Rattle.key_tree.specs.Growth.{MayWiden, AreSameButMasks, AreMasked};
 
 use crate::branch::Branch;
@@ -37,6 +37,8 @@ pub(crate) fn join_chain(
 ) -> Result<(), NoMemory>
     requires within { front.place < length (root.old ∷ others.old.items) }
     requires at { front.at ≤ length (slice_index_or (root.old ∷ others.old.items) front.place no_place).kids }
+    requires masks { length (slice_index_or (root.old ∷ others.old.items) front.place no_place).masks
+        ≡ length (slice_index_or (root.old ∷ others.old.items) front.place no_place).kids }
     ensures branches { OnOk result (branches.new.items ≡ branches.old.items ++ chain.branches.items) }
     ensures places { OnOk result (root.new ∷ others.new.items
         ≡ set (root.old ∷ others.old.items) front.place
@@ -81,6 +83,8 @@ fn add_kid(
 ) -> Result<(), NoMemory>
     requires within { place < length (root.old ∷ others.old.items) }
     requires at { at ≤ length (slice_index_or (root.old ∷ others.old.items) place no_place).kids }
+    requires masks { length (slice_index_or (root.old ∷ others.old.items) place no_place).masks
+        ≡ length (slice_index_or (root.old ∷ others.old.items) place no_place).kids }
     ensures added { OnOk result (root.new ∷ others.new.items
         ≡ set (root.old ∷ others.old.items) place (with_kid at kid (slice_index_or (root.old ∷ others.old.items) place no_place))) }
     ensures unchanged { OnErr result ((root.new ≡ root.old) × (others.new.items ≡ others.old.items)) }
@@ -115,21 +119,31 @@ pub(crate) fn widen_to(branches: &[Branch], root: &mut Place, others: &mut Vec<P
     let mut mask = 0;
     while place != 0 {
         let branch = &branches[place as usize - 1];
+        let kid = place;
+        let behind = mask;
         mask |= gives_of(&branch.atom);
         place = branch.from;
-        widen_place(root, others, place, mask);
+        widen_place(root, others, place, kid, behind, mask);
     }
 }
 
-/// Adds bits to the mask of a place.
-fn widen_place(root: &mut Place, others: &mut Vec<Place>, place: u32, mask: u64)
-    requires { place < length (root.old ∷ others.old.items) }
-    ensures { root.new ∷ others.new.items
-        ≡ set (root.old ∷ others.old.items) place (with_mask mask (slice_index_or (root.old ∷ others.old.items) place no_place)) }
+/// Adds bits to the mask of a place, and what is behind a later place to the mask of the kid that leads there.
+fn widen_place(
+    root: &mut Place,
+    others: &mut Vec<Place>,
+    place: u32,
+    kid: u32,
+    behind: u64,
+    mask: u64,
+)
+    requires within { place < length (root.old ∷ others.old.items) }
+    requires masks { length (slice_index_or (root.old ∷ others.old.items) place no_place).masks
+        ≡ length (slice_index_or (root.old ∷ others.old.items) place no_place).kids }
+    ensures { AreWidened place kid behind mask (root.old ∷ others.old.items) (root.new ∷ others.new.items) }
 {
     if place == 0 {
-        root.widen(mask);
+        root.widen(kid, behind, mask);
         return;
     }
-    others[place as usize - 1].widen(mask);
+    others[place as usize - 1].widen(kid, behind, mask);
 }

@@ -1,6 +1,7 @@
 //! Places.
-ghost use Rattle.std.specs.Prelude.{◌≡◌, None, [], ◌≤◌, length, OnOk, OnErr};
-ghost use Rattle.key_tree.specs.Places.{PlainPlace, with_kid, with_number, with_mask};
+ghost use Rattle.std.specs.Prelude.{◌≡◌, None, [], ◌∷◌, ◌++◌, ◌<◌, ◌≤◌, length, take, drop, OnOk, OnErr};
+ghost use Rattle.std.specs.Vec.{vec_capacity};
+ghost use Rattle.key_tree.specs.Places.{PlainPlace, with_kid, with_number, IsWidened, AreKidsWidened};
 
 use crate::kid::Kid;
 use outside::NoMemory;
@@ -11,6 +12,7 @@ use std::marker::Model;
 #[derive(Debug, Drop)]
 pub struct Place {
     kids: Vec<Kid>,
+    masks: Vec<u64>,
     number: Option<u32>,
     below: u64,
 }
@@ -20,16 +22,22 @@ impl Model for Place {
 
     ghost Value = { PlainPlace };
 
-    ghost view = { λ place. record { kids = place.kids.items; number = place.number; below = place.below } };
+    ghost view = { λ place. record {
+      kids = place.kids.items;
+      masks = place.masks.items;
+      number = place.number;
+      below = place.below;
+    } };
 }
 
 impl Place {
     /// A place with no branch, where nothing is held.
     pub(crate) fn new(alloc: Global) -> Place
-        ensures { result ≡ record { kids = []; number = None; below = 0 } }
+        ensures { result ≡ record { kids = []; masks = []; number = None; below = 0 } }
     {
         Place {
             kids: Vec::new(alloc),
+            masks: Vec::new(alloc),
             number: None,
             below: 0,
         }
@@ -40,6 +48,13 @@ impl Place {
         ensures { result.now ≡ self.now.kids }
     {
         &self.kids
+    }
+
+    /// Beside each branch a mask that has all that the atoms behind its place may imply.
+    pub(crate) fn masks(&self) -> &[u64]
+        ensures { result.now ≡ self.now.masks }
+    {
+        &self.masks
     }
 
     /// The first number that was held here, if any.
@@ -56,20 +71,25 @@ impl Place {
         self.below
     }
 
-    /// Puts a branch at this position.
+    /// Puts a branch at this position, to a place behind which there is nothing yet.
     pub(crate) fn add(&mut self, at: usize, kid: Kid) -> Result<(), NoMemory>
-        requires { at ≤ length self.old.kids }
+        requires kids { at ≤ length self.old.kids }
+        requires masks { length self.old.masks ≡ length self.old.kids }
         ensures added { OnOk result (self.new ≡ with_kid at kid self.old) }
         ensures unchanged { OnErr result (self.new ≡ self.old) }
     {
+        self.masks.reserve(1)?;
         self.kids.insert(at, kid)?;
+        insert_reserved(&mut self.masks, at, 0);
         Ok(())
     }
 
-    /// Adds these bits to the mask.
-    pub(crate) fn widen(&mut self, mask: u64)
-        ensures { self.new ≡ with_mask mask self.old }
+    /// Adds bits to the mask, and what is behind a place to the mask of the kid that leads there.
+    pub(crate) fn widen(&mut self, kid: u32, behind: u64, mask: u64)
+        requires { length self.old.masks ≡ length self.old.kids }
+        ensures { IsWidened kid behind mask self.old self.new }
     {
+        widen_kid(&self.kids, &mut self.masks, kid, behind);
         self.below |= mask;
     }
 
@@ -81,4 +101,26 @@ impl Place {
             self.number = Some(number);
         }
     }
+}
+
+/// Adds bits to the mask beside each kid that leads to this place.
+fn widen_kid(kids: &[Kid], masks: &mut [u64], place: u32, behind: u64)
+    requires { length masks.old ≡ length kids.now }
+    ensures { AreKidsWidened kids.now place behind masks.old masks.new (length kids.now) }
+{
+    for (k, kid) in kids.iter().enumerate() {
+        if kid.place == place {
+            masks[k] |= behind;
+        }
+    }
+}
+
+/// Puts a mask at this position, for which there is room.
+fn insert_reserved(masks: &mut Vec<u64>, at: usize, mask: u64)
+    requires at { at ≤ length masks.old.items }
+    requires room { length masks.old.items < vec_capacity masks.old }
+    ensures { masks.new.items ≡ take at masks.old.items ++ mask ∷ drop at masks.old.items }
+{
+    let inserted = masks.insert(at, mask);
+    prove!(inserted.is_ok());
 }

@@ -1,8 +1,8 @@
 //! Prints of atoms.
 ghost use Rattle.std.specs.Prelude.{◌≡◌};
-ghost use Rattle.key_tree.specs.Asked.{print_of};
+ghost use Rattle.key_tree.specs.Asked.{atom_hash, print_of};
 
-use crate::mask::{hash_of, needs_bit};
+use crate::mask::needs_bit;
 use lin_model::KeyAtom;
 
 /// What a walk looks at before it looks at an atom that is asked.
@@ -15,12 +15,12 @@ pub struct Print {
 }
 
 impl Print {
-    /// The print of an atom.
+    /// The print of an atom whose form has this hash.
     #[tactic(auto, unfolding(crate::specs::Prints::needs_of))]
-    pub fn of(atom: &KeyAtom) -> Print
+    pub fn of(atom: &KeyAtom, hash: u32) -> Print
+        requires { hash ≡ atom_hash atom.now }
         ensures { result ≡ print_of atom.now }
     {
-        let hash = hash_of(atom.form());
         Print {
             hash,
             needs: needs_bit(hash, atom.op()),

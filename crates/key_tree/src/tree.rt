@@ -15,7 +15,7 @@ ghost use Rattle.std.specs.Prelude.{
   IfErr,
   IfSome,
 };
-ghost use Rattle.key_tree.specs.Tree.{IsTree, pairs_of, place_at, branch_to, way_to, Holds};
+ghost use Rattle.key_tree.specs.Tree.{IsTree, AreMasksOf, pairs_of, place_at, branch_to, way_to, Holds};
 ghost use Rattle.key_tree.specs.Growth.{IsFront, IsKidFor, IsPositionFor};
 ghost use Rattle.key_tree.specs.Held.{HavePrefixes, IsLeastOf};
 
@@ -100,6 +100,17 @@ impl KeyTree {
         ensures tree { IsTree self.now }
     {
         self.place(place).kids()
+    }
+
+    /// Beside each of its branches a mask that has all of the mask of the place that the branch leads to.
+    pub fn masks(&self, place: u32) -> &[u64]
+        requires { place < length self.now.places }
+        ensures masks { result.now ≡ (place_at self.now place).masks }
+        ensures count { length result.now ≡ length (place_at self.now place).kids }
+        ensures right { AreMasksOf self.now (place_at self.now place).kids result.now }
+        ensures tree { IsTree self.now }
+    {
+        self.place(place).masks()
     }
 
     /// The first number that was held at a place, if any.

@@ -2,7 +2,7 @@
 use Rattle.std.proofs.Common.{◌≡◌, ℕ, ◌<◌, ◌∙◌, List, [], ◌∷◌, ◌++◌, length, inr, refl, sym, subst, arith}
 use Rattle.std.specs.List.{All}
 use Rattle.lin_model.specs.KeyAtom.{PlainKeyAtom}
-use Rattle.atom_implies.specs.Implies.{Covers}
+use Rattle.atom_implies.specs.Implies.{Implies, Covers}
 use Rattle.key_tree.specs.Prints.{hash_of}
 use Rattle.key_tree.specs.Tree.{PlainTree, IsTree, Holds, way_to, branch_to}
 use Rattle.key_tree.specs.Laws.{PrintsAreRight}
@@ -36,18 +36,25 @@ module _ (tree : PlainTree) (place : ℕ) (wanted : List PlainKeyAtom) (atom : P
   of_branch best found walked =
       subst (λ (a : PlainKeyAtom). IsLeastFound tree place (λ rest. Covers (a ∷ rest) wanted) best found) is walked
 
-  -- where no form that is wanted has its form's hash, what is behind it has to cover all
-  pub found_without : PrintsAreRight → (hash best found : ℕ) → hash ≡ hash_of (branch_to tree place).atom.form
-      → All (λ a. ¬ (hash_of a.form ≡ hash)) wanted → IsLeastFound tree place (λ rest. Covers rest wanted) best found
+  -- where the atom covers nothing that is wanted, what is behind it has to cover all
+  pub found_nothing : (best found : ℕ) → All (λ b. ¬ Implies atom b) wanted
+      → IsLeastFound tree place (λ rest. Covers rest wanted) best found
       → IsLeastFound tree place (λ rest. Covers ((branch_to tree place).atom ∷ rest) wanted) best found
-  found_without prints hash best found same others walked =
-      let none = none_implied prints atom wanted
-      (subst (λ (h : ℕ). All (λ a. ¬ (hash_of a.form ≡ h)) wanted)
-      (same ∙ subst (λ (a : PlainKeyAtom). hash_of a.form ≡ hash_of atom.form) is refl) others) in
+  found_nothing best found none walked =
       of_branch best found
       (found_alike tree place (λ (rest : List PlainKeyAtom). Covers rest wanted)
       (λ (rest : List PlainKeyAtom). Covers (atom ∷ rest) wanted) best found
       (λ rest. Covers-more atom rest wanted) (λ rest. Covers-fewer atom rest wanted none) walked)
+
+  -- so it is where no form that is wanted has its form's hash
+  pub found_without : PrintsAreRight → (hash best found : ℕ) → hash ≡ hash_of (branch_to tree place).atom.form
+      → All (λ a. ¬ (hash_of a.form ≡ hash)) wanted → IsLeastFound tree place (λ rest. Covers rest wanted) best found
+      → IsLeastFound tree place (λ rest. Covers ((branch_to tree place).atom ∷ rest) wanted) best found
+  found_without prints hash best found same others walked =
+      found_nothing best found
+      (none_implied prints atom wanted
+      (subst (λ (h : ℕ). All (λ a. ¬ (hash_of a.form ≡ h)) wanted)
+      (same ∙ subst (λ (a : PlainKeyAtom). hash_of a.form ≡ hash_of atom.form) is refl) others)) walked
 
   module _ (left : List PlainKeyAtom) (leaves : LeavesOf atom wanted left) where
     -- what is behind it has to cover what is left

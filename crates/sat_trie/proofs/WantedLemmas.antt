@@ -10,6 +10,7 @@ use Rattle.std.proofs.lemmas.List.{map_push, take_more, length_push, length-map,
 use Rattle.std.proofs.lemmas.List.{get_or-set_same, get_or-set_other}
 use Rattle.std.proofs.lemmas.List.Elements.{All-push, All-nil, All-weaker}
 use Rattle.std.proofs.lemmas.Nat.Bits.{bit_at-zero, bit_at-lt, bit_at_or, bit_at-pow_same, bit_at-pow_other, shr_and_one}
+use Rattle.std.proofs.lemmas.Bool.{cases_lt}
 use Rattle.std.proofs.lemmas.Bool.Decides.{eqb_tells, Decides-eqb}
 use Rattle.lin_model.specs.KeyAtom.{PlainKeyAtom}
 use Rattle.atom_implies.specs.Implies.{Implies}
@@ -17,7 +18,7 @@ use Rattle.key_tree.specs.declared.print.Print.{Print}
 use Rattle.sat_trie.specs.declared.wanted.Left.{Left}
 use Rattle.key_tree.specs.Prints.{hash_of, form_bit, needs_of, IsWithin}
 use Rattle.key_tree.specs.Asked.{print_of, no_atom}
-use Rattle.sat_trie.specs.Wanted.{has_place, place_if, places_in, atoms_at, atoms_left, IsVoid, IsWithPlace, IsLeft}
+use Rattle.sat_trie.specs.Wanted.{has_place, place_if, places_in, atoms_at, atoms_left, IsVoid, IsWithPlace, IsLeft, AreNoneImplied}
 use Rattle.key_tree.specs.MaskFacts.{within_more, within_left, within_right, within_both}
 use Rattle.sat_trie.proofs.AnyLemmas.{All-front, All-last}
 use Rattle.sat_trie.proofs.CoverLemmas.{LeavesOf, leaves_none, leaves_implied, leaves_other}
@@ -392,3 +393,61 @@ steps_more asked words n begun old new so_far one =
           let zero : has_place words n ≡ 0 = omega (arith, off.1, has_place-lt words n) in
           omega (arith, so_far, one, zero, ap (λ (xs : List PlainKeyAtom). length xs) (atoms_same asked words n zero))
     ]
+
+-- ---- the first place whose atom is implied
+
+-- none is implied of the first n, nor is the next
+pub none_more : (asked : List PlainKeyAtom) (left : Left) (a : PlainKeyAtom) (n : ℕ) → AreNoneImplied asked left a n
+    → ¬ ((has_place left.words n ≡ 1) × Implies a (get_or asked n no_atom)) → AreNoneImplied asked left a (n + 1)
+none_more asked left a n none other place lt on implied = elim (eqb_tells place n) [
+  | inl same ↦ other (subst (λ (k : ℕ). (has_place left.words k ≡ 1) × Implies a (get_or asked k no_atom)) same.1 (on, implied))
+  | inr apart ↦ none place (omega (arith, lt, apart.1)) on implied
+]
+
+-- so none of the atoms that are left of the first n is
+pub none_left : (asked : List PlainKeyAtom) (left : Left) (a : PlainKeyAtom) (n : ℕ) → AreNoneImplied asked left a n
+    → All (λ b. ¬ Implies a b) (atoms_left asked left n)
+none_left asked left a zero none =
+    subst (λ (atoms : List PlainKeyAtom). All (λ b. ¬ Implies a b) atoms)
+    (sym (ap (λ (places : List ℕ). atoms_at asked places) (places_in-zero left.words))) (All-nil (λ b. ¬ Implies a b))
+none_left asked left a (suc n) none =
+    let next : n + 1 ≡ suc n = omega arith in
+    let rest = none_left asked left a n (λ place lt. none place (omega (arith, lt))) in
+    subst (λ (k : ℕ). All (λ b. ¬ Implies a b) (atoms_left asked left k)) next
+    (elim (eqb_tells (has_place left.words n) 1) [
+      | inl on ↦ subst (λ (atoms : List PlainKeyAtom). All (λ b. ¬ Implies a b) atoms) (sym (atoms_more asked left.words n on.1))
+          (All-push (λ b. ¬ Implies a b) (atoms_left asked left n) (get_or asked n no_atom) rest (none n (omega arith) on.1))
+      | inr off ↦
+          let zero_bit : has_place left.words n ≡ 0 = omega (arith, off.1, has_place-lt left.words n) in
+          subst (λ (atoms : List PlainKeyAtom). All (λ b. ¬ Implies a b) atoms) (sym (atoms_same asked left.words n zero_bit)) rest
+    ])
+
+-- the steps behind the first
+pub record StepsBehind (asked : List PlainKeyAtom) (words : List ℕ) (first begun steps n : ℕ) : Type 0 where
+  pub upto : n ≤ first + 1 → steps ≤ begun
+  pub behind : first < n → steps + length (atoms_at asked (places_in words (first + 1)))
+      ≤ begun + length (atoms_at asked (places_in words n))
+
+-- one place more
+pub steps_behind : (asked : List PlainKeyAtom) (words : List ℕ) (first begun old new n : ℕ)
+    → StepsBehind asked words first begun old n → (first < n → new ≤ old + has_place words n) → (n ≤ first → new ≡ old)
+    → StepsBehind asked words first begun new (n + 1)
+steps_behind asked words first begun old new n so_far cost none = record {
+  upto = λ le. let same : new ≡ old = none (omega arith) in let few : old ≤ begun = so_far.upto (omega arith) in omega arith;
+  behind = λ lt. elim (cases_lt first n) [
+    | inl after ↦
+        step after
+    | inr upto ↦
+        let same : new ≡ old = none upto in
+        let few : old ≤ begun = so_far.upto (omega arith) in
+        let e : n ≡ first = omega arith in
+        subst (λ (k : ℕ). new + length (atoms_at asked (places_in words (first + 1))) ≤ begun + length (atoms_at asked (places_in words (k + 1))))
+        (sym e) (omega arith)
+  ];
+}
+  where
+    step : first < n → new + length (atoms_at asked (places_in words (first + 1)))
+        ≤ begun + length (atoms_at asked (places_in words (n + 1)))
+    step after =
+        let seen = length (atoms_at asked (places_in words (first + 1))) in
+        steps_more asked words n begun (old + seen) (new + seen) (so_far.behind after) (omega (arith, cost after))

@@ -1,9 +1,10 @@
 -- What of an asked key is still to be covered: the atoms at some of its places.
-use Rattle.std.specs.Prelude.{◌≡◌, ℕ, zero, suc, ◌+◌, ◌/◌, ◌%◌, ◌≤◌, All, List, [], ◌∷◌, ◌++◌, length, map, slice_index_or}
+use Rattle.std.specs.Prelude.{◌≡◌, ℕ, zero, suc, ◌+◌, ◌/◌, ◌%◌, ◌<◌, ◌≤◌, All, List, [], ◌∷◌, ◌++◌, length, map, slice_index_or}
 use Rattle.std.specs.Int.{bit_at}
 use Rattle.std.specs.Int.RustNames.{bit_or}
 use Rattle.lin_model.specs.KeyAtom.{PlainKeyAtom}
 use Rattle.sat_trie.specs.declared.wanted.Left.{Left}
+use Rattle.atom_implies.specs.Implies.{Implies}
 use Rattle.key_tree.specs.declared.print.Print.{Print}
 use Rattle.key_tree.specs.Prints.{hash_of, form_bit, needs_of, IsWithin}
 use Rattle.key_tree.specs.Asked.{no_atom}
@@ -52,3 +53,14 @@ pub record IsLeft (asked : List PlainKeyAtom) (left : Left) (n : ℕ) : Type 0 w
   pub few : left.count ≤ n
   pub needs : (mask : ℕ) → All (λ a. IsWithin (needs_of a) mask) (atoms_left asked left n) → IsWithin left.needs mask
   pub forms : All (λ a. IsWithin (form_bit (hash_of a.form)) left.forms) (atoms_left asked left n)
+
+-- of the first n atoms, none that is left is implied by this one
+abbrev pub AreNoneImplied : List PlainKeyAtom → Left → PlainKeyAtom → ℕ → Type 0
+AreNoneImplied asked left atom n =
+    (place : ℕ) → place < n → has_place left.words place ≡ 1 → ¬ Implies atom (slice_index_or asked place no_atom)
+
+-- the first place of an atom that is left and implied by this one
+pub record IsFirstImplied (asked : List PlainKeyAtom) (left : Left) (atom : PlainKeyAtom) (place : ℕ) : Type 0 where
+  pub within : place < length asked
+  pub implied : Implies atom (slice_index_or asked place no_atom)
+  pub before : AreNoneImplied asked left atom place

@@ -1,11 +1,11 @@
 //! What of an asked key is still to be covered.
-ghost use Rattle.std.specs.Prelude.{◌≡◌, ◌⊎◌, ◌↔◌, ℕ, ◌+◌, ◌%◌, ◌^◌, ◌<◌, ◌≤◌, false, All, List, [], ◌∷◌, length, IsTrue};
+ghost use Rattle.std.specs.Prelude.{IfSome, None, ◌≡◌, ◌⊎◌, ◌↔◌, ℕ, ◌+◌, ◌%◌, ◌^◌, ◌<◌, ◌≤◌, false, All, List, [], ◌∷◌, length, IsTrue};
 ghost use Rattle.std.specs.Prelude.{slice_index_or};
 ghost use Rattle.lin_model.specs.KeyAtom.{PlainKeyAtom};
 ghost use Rattle.atom_implies.specs.Implies.{Implies, Covers};
 ghost use Rattle.key_tree.specs.Prints.{hash_of, needs_of, IsWithin};
 ghost use Rattle.key_tree.specs.Asked.{no_atom};
-ghost use Rattle.sat_trie.specs.Wanted.{has_place, atoms_left, IsVoid, IsWithPlace, IsLeft};
+ghost use Rattle.sat_trie.specs.Wanted.{has_place, atoms_left, IsVoid, IsWithPlace, IsLeft, AreNoneImplied, IsFirstImplied};
 
 use atom_implies::{Steps, implies};
 use key_tree::{Asked, Print, form_bit, is_within};
@@ -115,21 +115,25 @@ impl<'a> Wanted<'a> {
         is_within(form_bit(hash), self.left.forms)
     }
 
-    /// What is left where this atom, whose form has this hash, is there to cover it.
+    /// What is left where this atom, whose form has this hash, is there to cover it. None where it covers none of it.
     pub(crate) fn without<L: Ledger>(
         &self,
         atom: &KeyAtom,
         hash: u32,
         steps: &mut Steps<L>,
-    ) -> Wanted<'a>
+    ) -> Option<Wanted<'a>>
         requires { hash ≡ hash_of atom.now.form }
-        ensures rest { (rest : List PlainKeyAtom) → Covers rest result ↔ Covers (atom.now ∷ rest) self.now }
-        ensures fewer { length result ≤ length self.now }
+        ensures rest { IfSome result (λ left. (rest : List PlainKeyAtom) → Covers rest left ↔ Covers (atom.now ∷ rest) self.now) }
+        ensures fewer { IfSome result (λ left. length left ≤ length self.now) }
+        ensures none { result ≡ None → All (λ a. ¬ Implies atom.now a) self.now }
         ensures cost { steps.new ≤ steps.old + length self.now }
     {
-        Wanted {
-            asked: self.asked,
-            left: left_without(self.asked, &self.left, atom, hash, steps),
+        match first_covered(self.asked, &self.left, atom, hash, steps) {
+            None => None,
+            Some(first) => Some(Wanted {
+                asked: self.asked,
+                left: left_without(self.asked, &self.left, first, atom, hash, steps),
+            }),
         }
     }
 }
@@ -146,33 +150,30 @@ fn all_places(asked: &Asked) -> Left
     left
 }
 
-/// Those of the places of `before` whose atoms this one, whose form has this hash, doesn't imply.
-fn left_without<L: Ledger>(
+/// The first of the places of `before` whose atom this one, whose form has this hash, implies, or none.
+fn first_covered<L: Ledger>(
     asked: &Asked,
     before: &Left,
     atom: &KeyAtom,
     hash: u32,
     steps: &mut Steps<L>,
-) -> Left
+) -> Option<u16>
     requires { hash ≡ hash_of atom.now.form }
-    ensures left { IsLeft asked.now result (length asked.now) }
-    ensures rest { (rest : List PlainKeyAtom) → Covers rest (atoms_left asked.now result (length asked.now))
-        ↔ Covers (atom.now ∷ rest) (atoms_left asked.now before.now (length asked.now)) }
-    ensures fewer { length (atoms_left asked.now result (length asked.now))
-        ≤ length (atoms_left asked.now before.now (length asked.now)) }
-    ensures cost { steps.new ≤ steps.old + length (atoms_left asked.now before.now (length asked.now)) }
+    ensures first { IfSome result (λ place. IsFirstImplied asked.now before.now atom.now place) }
+    ensures none { result ≡ None → AreNoneImplied asked.now before.now atom.now (length asked.now) }
+    ensures cost { IfSome result (λ place. steps.new ≤ steps.old + length (atoms_left asked.now before.now (place + 1))) }
+    ensures cost_of_none { result ≡ None → steps.new ≤ steps.old + length (atoms_left asked.now before.now (length asked.now)) }
 {
-    let mut left = Left::none();
     for place in 0..asked.count() {
-        if stays(asked, before, place, atom, hash, steps) {
-            left.add(place, asked.print(place));
+        if is_covered(asked, before, place, atom, hash, steps) {
+            return Some(place);
         }
     }
-    left
+    None
 }
 
-/// Whether the place is among those of `before`, and its atom isn't implied.
-fn stays<L: Ledger>(
+/// Whether the place is among those of `before`, and its atom is implied.
+fn is_covered<L: Ledger>(
     asked: &Asked,
     before: &Left,
     place: u16,
@@ -183,12 +184,66 @@ fn stays<L: Ledger>(
     requires place { place < length asked.now }
     requires few { length asked.now ≤ 384 }
     requires hash { hash ≡ hash_of atom.now.form }
+    ensures exact { IsTrue result ↔ (has_place before.now.words place ≡ 1)
+        × Implies atom.now (slice_index_or asked.now place no_atom) }
+    ensures cost { steps.new ≤ steps.old + has_place before.now.words place }
+{
+    before.has(place) && is_implied(asked, place, atom, hash, steps)
+}
+
+/// Those of the places of `before` whose atoms this one, whose form has this hash, doesn't imply. The first that it implies
+/// is known, so those up to it need no step.
+fn left_without<L: Ledger>(
+    asked: &Asked,
+    before: &Left,
+    first: u16,
+    atom: &KeyAtom,
+    hash: u32,
+    steps: &mut Steps<L>,
+) -> Left
+    requires hash { hash ≡ hash_of atom.now.form }
+    requires first { IsFirstImplied asked.now before.now atom.now first }
+    ensures left { IsLeft asked.now result (length asked.now) }
+    ensures rest { (rest : List PlainKeyAtom) → Covers rest (atoms_left asked.now result (length asked.now))
+        ↔ Covers (atom.now ∷ rest) (atoms_left asked.now before.now (length asked.now)) }
+    ensures fewer { length (atoms_left asked.now result (length asked.now))
+        ≤ length (atoms_left asked.now before.now (length asked.now)) }
+    ensures cost { steps.new + length (atoms_left asked.now before.now (first + 1))
+        ≤ steps.old + length (atoms_left asked.now before.now (length asked.now)) }
+{
+    let mut left = Left::none();
+    for place in 0..asked.count() {
+        if stays(asked, before, first, place, atom, hash, steps) {
+            left.add(place, asked.print(place));
+        }
+    }
+    left
+}
+
+/// Whether the place is among those of `before`, and its atom isn't implied, where the first place is known whose atom is.
+fn stays<L: Ledger>(
+    asked: &Asked,
+    before: &Left,
+    first: u16,
+    place: u16,
+    atom: &KeyAtom,
+    hash: u32,
+    steps: &mut Steps<L>,
+) -> bool
+    requires place { place < length asked.now }
+    requires few { length asked.now ≤ 384 }
+    requires hash { hash ≡ hash_of atom.now.form }
+    requires first { IsFirstImplied asked.now before.now atom.now first }
     ensures stays { IsTrue result → (has_place before.now.words place ≡ 1)
         × ¬ Implies atom.now (slice_index_or asked.now place no_atom) }
     ensures goes { result ≡ false → (has_place before.now.words place ≡ 0)
         ⊎ Implies atom.now (slice_index_or asked.now place no_atom) }
-    ensures cost { steps.new ≤ steps.old + has_place before.now.words place }
+    ensures cost { first < place → steps.new ≤ steps.old + has_place before.now.words place }
+    ensures no_cost { place ≤ first → steps.new ≡ steps.old }
 {
+    if place <= first {
+        return place < first && before.has(place);
+    }
     before.has(place) && !is_implied(asked, place, atom, hash, steps)
 }
 
@@ -205,7 +260,7 @@ fn is_implied<L: Ledger>(
     ensures exact { IsTrue result ↔ Implies atom.now (slice_index_or asked.now place no_atom) }
     ensures cost { steps.new ≤ steps.old + 1 }
 {
-    if asked.print(place).hash != hash {
+    if asked.hash(place) != hash {
         return false;
     }
     implies(atom, asked.atom(place), steps)

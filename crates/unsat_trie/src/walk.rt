@@ -3,15 +3,13 @@ ghost use Rattle.std.specs.Prelude.{◌≡◌, ◌↔◌, ℕ, ◌+◌, ◌*◌,
 ghost use Rattle.std.specs.Prelude.{length, map, Any, IsTrue};
 ghost use Rattle.atom_implies.specs.Implies.{Covers, Implies};
 ghost use Rattle.key_tree.specs.Prints.{hash_of as form_hash};
-ghost use Rattle.key_tree.specs.Asked.{print_of};
+ghost use Rattle.key_tree.specs.Asked.{atom_hash};
 ghost use Rattle.key_tree.specs.Held.{IsLeastOf};
 ghost use Rattle.key_tree.specs.Tree.{TellsOfBranch, branch_to, pairs_of};
 ghost use Rattle.key_tree.specs.Walks.{IsLeastFound, IsAtOrBehind, IsBehind, Visits};
 
 use atom_implies::{Steps, implies};
-use key_tree::{
-    ABOVE_ALL, Asked, KeyTree, Kid, Print, lesser, number_of, visits_go_on, walks_go_on,
-};
+use key_tree::{ABOVE_ALL, Asked, KeyTree, Kid, lesser, number_of, visits_go_on, walks_go_on};
 use lin_model::KeyAtom;
 use std::sync::ledger::Ledger;
 
@@ -75,24 +73,24 @@ fn is_implied<L: Ledger>(asked: &Asked, hash: u32, atom: &KeyAtom, steps: &mut S
     ensures exact { IsTrue result ↔ Any (λ b. Implies b atom.now) asked.now }
     ensures cost { steps.new ≤ steps.old + length asked.now }
 {
-    asked.has_form(hash) && some_implies(asked.atoms(), asked.prints(), hash, atom, steps)
+    asked.has_form(hash) && some_implies(asked.atoms(), asked.hashes(), hash, atom, steps)
 }
 
 /// Whether some atom of the list implies this one.
 fn some_implies<L: Ledger>(
     atoms: &[KeyAtom],
-    prints: &[Print],
+    hashes: &[u32],
     hash: u32,
     atom: &KeyAtom,
     steps: &mut Steps<L>,
 ) -> bool
-    requires prints { prints.now ≡ map print_of atoms.now }
+    requires hashes { hashes.now ≡ map atom_hash atoms.now }
     requires hash { hash ≡ form_hash atom.now.form }
     ensures exact { IsTrue result ↔ Any (λ b. Implies b atom.now) atoms.now }
     ensures cost { steps.new ≤ steps.old + length atoms.now }
 {
-    for (place, print) in prints.iter().enumerate() {
-        if implies_if_alike(&atoms[place], print, hash, atom, steps) {
+    for (place, own_hash) in hashes.iter().enumerate() {
+        if implies_if_alike(&atoms[place], *own_hash, hash, atom, steps) {
             return true;
         }
     }
@@ -102,15 +100,15 @@ fn some_implies<L: Ledger>(
 /// Whether an asked atom implies this one: their forms have to have one hash.
 fn implies_if_alike<L: Ledger>(
     asked: &KeyAtom,
-    print: &Print,
+    own_hash: u32,
     hash: u32,
     atom: &KeyAtom,
     steps: &mut Steps<L>,
 ) -> bool
-    requires print { print.now ≡ print_of asked.now }
+    requires own_hash { own_hash ≡ atom_hash asked.now }
     requires hash { hash ≡ form_hash atom.now.form }
     ensures exact { IsTrue result ↔ Implies asked.now atom.now }
     ensures cost { steps.new ≤ steps.old + 1 }
 {
-    print.hash == hash && implies(asked, atom, steps)
+    own_hash == hash && implies(asked, atom, steps)
 }

@@ -1,7 +1,7 @@
 use Rattle.key_tree.proofs.FormLemmas.{forms_more}
 use Rattle.key_tree.proofs.asked.forms_of.Goals as goal
 
-pub loop-print-preserved : goal.loop-print-preserved
-loop-print-preserved c =
-    forms_more c.args.prints.now c.loop-print.print-index _ c.loop-print.forms c.form_bit-forms.result
-    c.loop-print-test.true c.form_bit-forms.ensures c.loop-print.invariant
+pub loop-hash-preserved : goal.loop-hash-preserved
+loop-hash-preserved c =
+    forms_more c.args.hashes.now c.loop-hash.hash-index _ c.loop-hash.forms c.form_bit-forms.result
+    c.loop-hash-test.true c.form_bit-forms.ensures c.loop-hash.invariant

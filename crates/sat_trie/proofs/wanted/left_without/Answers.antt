@@ -1,14 +1,14 @@
-use Rattle.std.proofs.Common.{◌≡◌, ℕ, ◌+◌, ◌≤◌, length, subst, arith}
+use Rattle.std.proofs.Common.{◌≡◌, ℕ, ◌+◌, ◌<◌, ◌≤◌, length, subst, arith}
 use Rattle.sat_trie.specs.Wanted.{atoms_left, IsLeft}
 use Rattle.sat_trie.proofs.CoverLemmas.{LeavesOf}
-use Rattle.sat_trie.proofs.WantedLemmas.{left_none, left_skipped, left_other, steps_more}
+use Rattle.sat_trie.proofs.WantedLemmas.{left_none, left_skipped, left_other, steps_behind}
 use Rattle.sat_trie.proofs.wanted.left_without.Goals.{then-stays, else-stays}
 use Rattle.sat_trie.proofs.wanted.left_without.Goals as goal
 
 pub loop-place-init : goal.loop-place-init
 loop-place-init g c = (
   left_none c.args.asked.now c.args.atom.now c.args.before.now c.none-left.result c.none-left.ensures,
-  omega arith,
+  record { upto = λ le. omega arith; behind = λ lt. absurd (omega (arith, lt)) },
 )
 
 pub add-requires-clause-few : goal.add-requires-clause-few
@@ -36,8 +36,8 @@ loop-place-preserved g c =
         | else-stays w ↦
             rw w.left-is (left_skipped asked atom before left i c.loop-place.invariant.0 (c.stays.ensures.goes (cc)))
       ],
-      steps_more asked before.words i c.args.steps.now c.loop-place.steps c.stays.new.steps c.loop-place.invariant.1
-          c.stays.ensures.cost,
+      steps_behind asked before.words c.args.first c.args.steps.now c.loop-place.steps c.stays.new.steps i
+          c.loop-place.invariant.1 c.stays.ensures.cost c.stays.ensures.no_cost,
     )
 
 at_end : (g : _) (c : goal.After-loop-place g) → c.loop-place.place ≡ length c.args.asked.now
@@ -61,6 +61,8 @@ returns-clause-fewer g c =
 
 pub returns-clause-cost : goal.returns-clause-cost
 returns-clause-cost g c =
+    let within : c.args.first < c.loop-place.place = omega (arith, c.requires.first.within, at_end g c) in
     subst (λ (n : ℕ).
-    c.loop-place.steps ≤ c.args.steps.now + length (atoms_left c.args.asked.now c.args.before.now n)) (at_end g c)
-    c.loop-place.invariant.1
+    c.loop-place.steps + length (atoms_left c.args.asked.now c.args.before.now (c.args.first + 1))
+    ≤ c.args.steps.now + length (atoms_left c.args.asked.now c.args.before.now n)) (at_end g c)
+    (c.loop-place.invariant.1.behind within)

@@ -1,8 +1,8 @@
 use Rattle.std.proofs.Common.{◌≡◌, take}
 use Rattle.std.specs.Prelude.{map}
-use Rattle.key_tree.specs.Asked.{print_of}
+use Rattle.key_tree.specs.Asked.{atom_hash}
 use Rattle.key_tree.proofs.asked.Asked.of.Given as goal
 
--- the prints so far
+-- the hashes so far
 abbrev pub invariant-loop-atom : goal.invariant-loop-atom
-invariant-loop-atom l = l.prints.items ≡ map print_of (take l.atom-index l.key)
+invariant-loop-atom l = l.hashes.items ≡ map atom_hash (take l.atom-index l.key)

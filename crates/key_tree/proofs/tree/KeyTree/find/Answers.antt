@@ -1,4 +1,4 @@
-use Rattle.std.proofs.Common.{◌≡◌, ◌<◌, ◌≤◌, List, length, ap, subst}
+use Rattle.std.proofs.Common.{◌<◌, ◌≤◌, List, length, subst}
 use Rattle.lin_model.specs.KeyAtom.{PlainKeyAtom}
 use Rattle.key_tree.specs.Growth.{IsFront}
 use Rattle.key_tree.proofs.FindLemmas.{none_found, found}
