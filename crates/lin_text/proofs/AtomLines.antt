@@ -1,19 +1,19 @@
 -- A comparison to the end of its line, token by token.
 use Rattle.std.proofs.Common.{◌≡◌, ℕ, Bool, true, false, cond, List, [], ◌∷◌, ◌++◌, Some, None, refl, sym, ap, subst}
 use Rattle.std.proofs.Common.{◌∙◌, append_assoc}
-use Rattle.std.specs.Prelude.{Result, Ok, Err}
+use Rattle.std.specs.Prelude.{Ok, Err}
 use Rattle.std.proofs.lemmas.List.{append-nil, map-append}
 use Rattle.lin_model.specs.Terms.{PlainTerm}
 use Rattle.lin_model.specs.declared.atom.Cmp.{Cmp}
-use Rattle.lin_text.specs.declared.refusal.Fault.{Fault}
 use Rattle.lin_text.specs.declared.class.Lexeme.{Lexeme}
 use Rattle.lin_text.specs.Pieces.{Piece, var, name, number, plus, minus, times, compare, line_end, PlainToken}
-use Rattle.lin_text.specs.Pieces.{PlainLine, pieces, AreTokens, is_last}
+use Rattle.lin_text.specs.Pieces.{PlainLine, pieces, AreTokens, is_last, cmp_of}
 use Rattle.lin_text.specs.Classes.{class_of, shown}
-use Rattle.lin_text.specs.Grammar.{Side, side_pieces, IsExpr, Compares}
-use Rattle.lin_text.specs.Faults.{declared_names, atom_count}
-use Rattle.lin_text.specs.Reading.{lexeme_at, refusal, is_joint, is_times, is_end_class, end_at, comparison_by}
-use Rattle.lin_text.specs.Reading.{comparison_at, side_at, atom_at, ◌>>=◌}
+use Rattle.lin_text.specs.Grammar.{Side, side_pieces, IsExpr, Compares, Naming}
+use Rattle.lin_text.specs.Faults.{atom_count, known}
+use Rattle.lin_text.specs.Reading.{Read, lexeme_at, refusal, is_joint, is_times, is_end_class, end_at, comparison_by}
+use Rattle.lin_text.specs.Reading.{comparison_at, side_from, atom_from, ◌>>=◌}
+use Rattle.lin_text.specs.declared.class.Sign.{Sign}
 use Rattle.lin_text.proofs.Places.{Place, item, after, size, done, next}
 use Rattle.lin_text.proofs.Passing.{At, At-next, At-start, IsRoom, not-nil, refused, sign_passed}
 use Rattle.lin_text.proofs.Outcomes.{Passes, Passes-append, Token, token_of, Gets, Gets-one, Fails, Fails-one}
@@ -23,14 +23,14 @@ use Rattle.lin_text.proofs.Sides.{IsWholeSide, side_out, right-nil, item_pieces-
 
 -- what was read means N of all tokens of the line; else it is the first fault
 abbrev pub LineOut : {X : Type 0} → List PlainLine → List Piece → List PlainToken → (X → List Piece → Type 0)
-    → Result X Fault → Type 0
+    → Read X → Type 0
 LineOut above front ts N (Ok x) = N x (pieces ts) × Passes above front (pieces ts) []
 LineOut above front ts N (Err f) = Fails above front ts f
 
 -- behind tokens that were passed
 pub LineOut-behind : {X : Type 0} (p : Bool) (bytes : List ℕ) (above : List PlainLine) (v : Bool) (front : List Piece)
     (at : ℕ) (ts : List PlainToken) (N : X → List Piece
-    → Type 0) (a : ℕ) (s : Place) (ps : List Piece) (r : Result X Fault) (got : Gets p bytes above v front ts a s ps)
+    → Type 0) (a : ℕ) (s : Place) (ps : List Piece) (r : Read X) (got : Gets p bytes above v front ts a s ps)
     → LineOut above (front ++ ps) got.rest (λ x qs. N x (ps ++ qs)) r → LineOut above front ts N r
 LineOut-behind {X} p bytes above v front at ts N a s ps (Ok y) got h =
     let all : pieces ts ≡ pieces got.used ++ pieces got.rest = ap pieces got.split
@@ -47,7 +47,7 @@ LineOut-behind p bytes above v front at ts N a s ps (Err f) got h =
 
 pub LineOut-then : {A X : Type 0} (p : Bool) (bytes : List ℕ) (above : List PlainLine) (v : Bool) (front : List Piece)
     (at : ℕ) (ts : List PlainToken) (M : A → ℕ → List Piece → Place → Type 0) (N : X → List Piece
-    → Type 0) (r : Result (A × ℕ) Fault) (g : A × ℕ → Result X Fault) → Outcome p bytes above v front ts M r
+    → Type 0) (r : Read (A × ℕ)) (g : A × ℕ → Read X) → Outcome p bytes above v front ts M r
     → ((a : A) (to : ℕ) (ps : List Piece) (s : Place) → M a to ps s → At v (front ++ ps) s → (rest : List PlainToken)
     → AreTokens p bytes to rest → LineOut above (front ++ ps) rest (λ x qs. N x (ps ++ qs)) (g (a, to)))
     → LineOut above front ts N (r >>= g)
@@ -129,7 +129,7 @@ module _ (p : Bool) (bytes : List ℕ) (above : List PlainLine) (front : List Pi
     → is_times (lexeme_at p bytes at).class ≡ false) (no_joint : is_joint (lexeme_at p bytes at).class ≡ false)
     (t : Token p bytes at ts) where
   abbrev pub IsSign : Cmp → ℕ → List Piece → Place → Type 0
-  IsSign c to ps s = (ps ≡ compare c ∷ []) × (s ≡ item false 0)
+  IsSign c to ps s = (o : Sign) × (c ≡ cmp_of o) × (ps ≡ compare o ∷ []) × (s ≡ item false 0)
 
   sign_room : IsRoom above front t.token.piece
   sign_room = record {
@@ -142,7 +142,7 @@ module _ (p : Bool) (bytes : List ℕ) (above : List PlainLine) (front : List Pi
   sign_by (compare c) is = (
     t.token.piece ∷ [],
     item false 0,
-    (ap (λ (r : Piece). r ∷ []) is, refl),
+    (c, refl, ap (λ (r : Piece). r ∷ []) is, refl),
     Gets-one p bytes above false front at ts t (item false 0)
         (sign_passed above false front (after true k bare) (item false 0) t.token.piece (pieces t.more) here sign_room
         (ap (next (after true k bare)) is ∙ goes bare) (λ l e. cc)
@@ -166,18 +166,21 @@ module _ (p : Bool) (bytes : List ℕ) (above : List PlainLine) (front : List Pi
   sign_out = subst (λ (x : Lexeme). Outcome p bytes above false front ts IsSign (comparison_by x.class x)) (sym t.shows)
       (sign_by t.token.piece refl)
 
-atom_means : (names : List (List ℕ)) (ls rs : List PlainTerm) (lps cps rps : List Piece) (c : Cmp) (left right : Side)
-    → lps ≡ side_pieces left → cps ≡ compare c ∷ [] → rps ≡ side_pieces right → IsExpr names left ls
+atom_means : (names : Naming) (ls rs : List PlainTerm) (lps cps rps : List Piece) (c : Cmp) (o : Sign)
+    (left right : Side) → c ≡ cmp_of o → lps ≡ side_pieces left → cps ≡ compare o ∷ [] → rps ≡ side_pieces right
+    → IsExpr names left ls
     → IsExpr names right rs → Compares names (lps ++ (cps ++ (rps ++ line_end ∷ [])))
     (record { left = ls; cmp = c; right = rs })
-atom_means names ls rs lps cps rps c left right l s r ml mr = record {
+atom_means names ls rs lps cps rps c o left right means l s r ml mr = record {
   left = left;
+  sign = o;
   right = right;
   written =
       ap (λ (qs : List Piece). qs ++ (cps ++ (rps ++ line_end ∷ []))) l
       ∙ ap (λ (qs : List Piece). side_pieces left ++ (qs ++ (rps ++ line_end ∷ []))) s
-      ∙ ap (λ (qs : List Piece). side_pieces left ++ (compare c ∷ (qs ++ line_end ∷ []))) r
-      ∙ sym (append_assoc (side_pieces left) (compare c ∷ side_pieces right) (line_end ∷ []));
+      ∙ ap (λ (qs : List Piece). side_pieces left ++ (compare o ∷ (qs ++ line_end ∷ []))) r
+      ∙ sym (append_assoc (side_pieces left) (compare o ∷ side_pieces right) (line_end ∷ []));
+  means = means;
   left_terms = ml;
   right_terms = mr;
 }
@@ -185,12 +188,12 @@ atom_means names ls rs lps cps rps c left right l s r ml mr = record {
 -- a comparison, from the start of its line
 pub atom_out : (p : Bool) (bytes : List ℕ) (above : List PlainLine) (at : ℕ) (ts : List PlainToken)
     → (t : Token p bytes at ts) → (t.token.piece ≡ var → ⊥) → (atom_count above ≡ 256 → ⊥)
-    → LineOut above [] ts (λ atom ps. Compares (declared_names above) ps atom)
-    (atom_at p bytes (declared_names above) at)
-unfolding atom_at
+    → LineOut above [] ts (λ atom ps. Compares (known above) ps atom)
+    (atom_from p bytes (known above) (shown t.token))
+unfolding atom_from
 atom_out p bytes above at ts t no_var few =
-    LineOut-then p bytes above false [] at ts (IsWholeSide p bytes (declared_names above) true)
-    (λ atom ps. Compares (declared_names above) ps atom) (side_at p bytes (declared_names above) at) _
+    LineOut-then p bytes above false [] at ts (IsWholeSide p bytes (known above) true)
+    (λ atom ps. Compares (known above) ps atom) (side_from p bytes (known above) (shown t.token)) _
     (side_out p bytes above [] at ts true At-start t (record { vars = λ _ e. no_var e; atoms = λ _ _ e. few e }))
     (λ ls to1 lps s1 left place1 rest1 are1.
     let t1 = token_of p bytes to1 rest1 are1 in
@@ -198,17 +201,19 @@ atom_out p bytes above at ts t no_var few =
     (λ (u : Place). At false ([] ++ lps) u) left.5 place1 in
     LineOut-then p bytes above false ([] ++ lps) to1 rest1
     (IsSign p bytes above ([] ++ lps) to1 rest1 left.1 left.2 here1 left.6 left.7 t1)
-    (λ atom qs. Compares (declared_names above) (lps ++ qs) atom) (comparison_at p bytes to1) _
+    (λ atom qs. Compares (known above) (lps ++ qs) atom) (comparison_at p bytes to1) _
     (sign_out p bytes above ([] ++ lps) to1 rest1 left.1 left.2 here1 left.6 left.7 t1)
     (λ c to2 cps s2 sign place2 rest2 are2.
     let t2 = token_of p bytes to2 rest2 are2 in
     let here2 : At false (([] ++ lps) ++ cps) (item false 0) = subst
-    (λ (u : Place). At false (([] ++ lps) ++ cps) u) sign.1 place2 in
-    LineOut-then p bytes above false (([] ++ lps) ++ cps) to2 rest2 (IsWholeSide p bytes (declared_names above) false)
-    (λ atom qs. Compares (declared_names above) (lps ++ (cps ++ qs)) atom)
-    (side_at p bytes (declared_names above) to2) _
+    (λ (u : Place). At false (([] ++ lps) ++ cps) u) sign.3 place2 in
+    LineOut-then p bytes above false (([] ++ lps) ++ cps) to2 rest2 (IsWholeSide p bytes (known above) false)
+    (λ atom qs. Compares (known above) (lps ++ (cps ++ qs)) atom)
+    (side_from p bytes (known above) (lexeme_at p bytes to2)) _
+    (subst (λ (x : Lexeme). Outcome p bytes above false (([] ++ lps) ++ cps) rest2
+    (IsWholeSide p bytes (known above) false) (side_from p bytes (known above) x)) (sym t2.shows)
     (side_out p bytes above (([] ++ lps) ++ cps) to2 rest2 false here2 t2
-    (sign_behind above ([] ++ lps) cps c t2.token.piece sign.0))
+    (sign_behind above ([] ++ lps) cps sign.0 t2.token.piece sign.2)))
     (λ rs to3 rps s3 right place3 rest3 are3.
     let t3 = token_of p bytes to3 rest3 are3 in
     let front3 = (([] ++ lps) ++ cps) ++ rps in
@@ -223,15 +228,15 @@ atom_out p bytes above at ts t no_var few =
     (λ no_end. right_ends right.1 right.2 t3.token.piece (ap (λ (x : Lexeme). is_joint x.class) (sym t3.shows)
     ∙ right.7) (λ b. ap (λ (x : Lexeme). is_times x.class) (sym t3.shows) ∙ right.6 b) no_end)
     (λ l e. cc)
-    (λ atom qs. Compares (declared_names above) (lps ++ (cps ++ (rps ++ qs))) atom)
+    (λ atom qs. Compares (known above) (lps ++ (cps ++ (rps ++ qs))) atom)
     (record { left = ls; cmp = c; right = rs })
-    (atom_means (declared_names above) ls rs lps cps rps c left.0 right.0 left.3 sign.0 right.3 left.4 right.4))))
+    (atom_means (known above) ls rs lps cps rps c sign.0 left.0 right.0 sign.1 left.3 sign.2 right.3 left.4 right.4))))
   where
     ends : (k : ℕ) (bare : Bool) → next (after false k bare) line_end ≡ Some done
     ends k true = refl
     ends k false = refl
 
-    sign_behind : (above : List PlainLine) (front cps : List Piece) (c : Cmp) (q : Piece) → cps ≡ compare c ∷ []
+    sign_behind : (above : List PlainLine) (front cps : List Piece) (c : Sign) (q : Piece) → cps ≡ compare c ∷ []
         → IsRoom above (front ++ cps) q
     sign_behind above front cps c q e =
         record {

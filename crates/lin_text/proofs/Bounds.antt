@@ -1,17 +1,16 @@
 -- The bounds of a declaration, token by token.
-use Rattle.std.proofs.Common.{◌≡◌, ℕ, ◌+◌, ◌^◌, ◌<◌, ◌≤◌, min, Bool, true, false, cond, nat_lt, List, [], ◌∷◌, ◌++◌}
+use Rattle.std.proofs.Common.{◌≡◌, ℕ, ◌^◌, ◌<◌, ◌≤◌, min, Bool, true, false, cond, nat_lt, List, [], ◌∷◌, ◌++◌}
 use Rattle.std.proofs.Common.{Some, None, refl, sym, ap, subst, ◌∙◌, arith, ℤ, pos, neg_ℤ, inl, inr}
-use Rattle.std.specs.Prelude.{Result, Ok, Err, MatchBool}
+use Rattle.std.specs.Prelude.{Ok, Err, MatchBool}
 use borrow.Author.Tests.{ltb-true, ltb-false}
 use Rattle.lin_text.specs.declared.fault.TextKind.TheVariants.{NumberTooLarge}
-use Rattle.lin_text.specs.declared.refusal.Fault.{Fault}
 use Rattle.lin_text.specs.declared.class.Lexeme.{Lexeme}
 use Rattle.lin_text.specs.Pieces.{Piece, name, number, minus, PlainToken, PlainLine, pieces, AreTokens, is_last}
 use Rattle.lin_text.specs.Classes.{class_of, shown}
 use Rattle.lin_text.specs.Grammar.{Integer, integer_pieces, integer_value}
 use Rattle.lin_text.specs.Faults.{IsTooLarge, begins_variable}
-use Rattle.lin_text.specs.Reading.{lexeme_at, fault_at, refusal, refusal_kind, bound_by, bound_of, is_minus, integer_at}
-use Rattle.lin_text.specs.Reading.{◌>>=◌}
+use Rattle.lin_text.specs.Reading.{Read, lexeme_at, fault_at, refusal, refusal_kind, bound_by, bound_of, is_minus}
+use Rattle.lin_text.specs.Reading.{integer_at, ◌>>=◌}
 use Rattle.lin_text.proofs.Places.{Place, low, low_number, high, high_number, var_end, size, next}
 use Rattle.lin_text.proofs.Passing.{At, At-next, IsRoom, not-nil, refused, small_rank, passed}
 use Rattle.lin_text.proofs.Outcomes.{Token, token_of, Gets, Gets-one, Fails, Fails-one, Outcome, Outcome-after}
@@ -82,13 +81,13 @@ IsBound u z to ps s = (n : ℕ) × (ps ≡ number n ∷ []) × (z ≡ pos n) × 
 abbrev pub IsIntegerAt : Place → ℤ → ℕ → List Piece → Place → Type 0
 IsIntegerAt u z to ps s = (i : Integer) × (ps ≡ integer_pieces i) × (z ≡ integer_value i) × (i.size ≤ 2 ^ 31) × (s ≡ u)
 
-over_limit : (n : ℕ) → nat_lt (2 ^ 31) (min n (2 ^ 40 + 1)) ≡ true → 2 ^ 31 < n
-over_limit n e = omega (arith, ltb-true (2 ^ 31) (min n (2 ^ 40 + 1)) e)
+over_limit : (n : ℕ) → nat_lt (2 ^ 31) (min n (2 ^ 50)) ≡ true → 2 ^ 31 < n
+over_limit n e = omega (arith, ltb-true (2 ^ 31) (min n (2 ^ 50)) e)
 
-within_limit : (n : ℕ) → nat_lt (2 ^ 31) (min n (2 ^ 40 + 1)) ≡ false → n ≤ 2 ^ 31
-within_limit n e = omega (arith, ltb-false (2 ^ 31) (min n (2 ^ 40 + 1)) e)
+within_limit : (n : ℕ) → nat_lt (2 ^ 31) (min n (2 ^ 50)) ≡ false → n ≤ 2 ^ 31
+within_limit n e = omega (arith, ltb-false (2 ^ 31) (min n (2 ^ 50)) e)
 
-same_number : (n : ℕ) → n ≤ 2 ^ 31 → min n (2 ^ 40 + 1) ≡ n
+same_number : (n : ℕ) → n ≤ 2 ^ 31 → min n (2 ^ 50) ≡ n
 same_number n le = omega arith
 
 pub not_too_large : (front : List Piece) (n : ℕ) (rest : List Piece) → begins_variable front ≡ true → n ≤ 2 ^ 31
@@ -116,9 +115,9 @@ module _ (p : Bool) (bytes : List ℕ) (above : List PlainLine) (front : List Pi
   unfolding bound_of
   bound_out w u here t num other space = by_piece t.token.piece refl
     where
-      by_number : (n : ℕ) → t.token.piece ≡ number n → (b : Bool) → nat_lt (2 ^ 31) (min n (2 ^ 40 + 1)) ≡ b
+      by_number : (n : ℕ) → t.token.piece ≡ number n → (b : Bool) → nat_lt (2 ^ 31) (min n (2 ^ 50)) ≡ b
           → Outcome p bytes above true front ts (IsBound u)
-          (cond b (Err (fault_at NumberTooLarge t.token.from)) (Ok (pos (min n (2 ^ 40 + 1)), t.token.to)))
+          (cond b (Err (fault_at NumberTooLarge t.token.from)) (Ok (pos (min n (2 ^ 50)), t.token.to)))
       by_number n is true e =
           Fails-one p bytes above true front at ts t NumberTooLarge (record {
             stands = (
@@ -147,13 +146,13 @@ module _ (p : Bool) (bytes : List ℕ) (above : List PlainLine) (front : List Pi
 
       by_piece : (q : Piece) → t.token.piece ≡ q
           → Outcome p bytes above true front ts (IsBound u) (bound_by (class_of q) (shown t.token))
-      by_piece (number n) is = by_number n is (nat_lt (2 ^ 31) (min n (2 ^ 40 + 1))) refl
+      by_piece (number n) is = by_number n is (nat_lt (2 ^ 31) (min n (2 ^ 50))) refl
       by_piece _ is = refuse w here t (other (ap is_number is))
 
 -- an integer where one may stand
 module _ (p : Bool) (bytes : List ℕ) (above : List PlainLine) (front : List Piece) (at : ℕ) (ts : List PlainToken)
     (some : front ≡ [] → ⊥) (s m u : Place) (places : AreBoundPlaces s m u) (here : At true front s) where
-  by_lexeme : Lexeme → Result (ℤ × ℕ) Fault
+  by_lexeme : Lexeme → Read (ℤ × ℕ)
   by_lexeme l = cond (is_minus l.class) (bound_of (lexeme_at p bytes l.to) >>= λ n. Ok (neg_ℤ n.0, n.1)) (bound_of l)
 
   plain : (t : Token p bytes at ts) → is_minus_piece t.token.piece ≡ false

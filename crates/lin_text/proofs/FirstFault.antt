@@ -10,7 +10,8 @@ use Rattle.lin_text.specs.declared.fault.TextKind.TheVariants as kinds
 use Rattle.lin_text.specs.declared.refusal.Fault.{Fault}
 use Rattle.lin_text.specs.Lines.{line_below, line_end}
 use Rattle.lin_text.specs.Pieces.{Piece, PlainToken, PlainLine, pieces, AreTokens, AreLines}
-use Rattle.lin_text.specs.Faults.{Stands, StandsAt, IsFirstFault, rank}
+use Rattle.lin_text.specs.Faults.{Stands, StandsAt, IsFirstFault}
+use Rattle.lin_text.specs.Kinds.{rank}
 use Rattle.lin_text.specs.Queries.{begins_word, is_of_query, query_lines, HasFault}
 use Rattle.lin_text.proofs.Positions.{lines_total, tokens-within, tokens-later, lines-behind}
 use Rattle.lin_text.proofs.Passing.{NoFault}
@@ -87,7 +88,8 @@ clean_line above (l ∷ lines) (f ∷ front) back line h e =
     (clean_line (above ++ l ∷ []) lines front back line h.1 more)
 
 -- no fault stands before the first one of the line
-before_first : (above : List PlainLine) (ts front mid : List PlainToken) (f : Fault) (fails : FailsFirst above ts f)
+before_first : (above : List PlainLine) (ts front mid : List PlainToken) (f : Fault TextKind)
+    (fails : FailsFirst above ts f)
     (t : PlainToken) → fails.fails.used ≡ front ++ t ∷ mid → (after : List PlainToken) → ts ≡ front ++ t ∷ after
     → (k : TextKind) → Stands above (pieces front) t.piece (pieces after) k → ⊥
 before_first above ts front mid f fails t is after e k h =
@@ -115,7 +117,7 @@ before_first above ts front mid f fails t is after e k h =
 
 -- the first fault of a line behind clean ones is the first of the query
 module _ (p : Bool) (bytes : List ℕ) (at : ℕ) (done : List PlainLine) (clean : AreClean [] done) (ts : List PlainToken)
-    (lt : at < length bytes) (are : AreTokens p bytes at ts) (f : Fault) (fails : FailsFirst done ts f)
+    (lt : at < length bytes) (are : AreTokens p bytes at ts) (f : Fault TextKind) (fails : FailsFirst done ts f)
     (rest : List PlainLine) (more : AreLines p bytes (line_below bytes at) rest) where
   abbrev line : PlainLine
   line = record { start = at; tokens = ts }
@@ -201,7 +203,7 @@ module _ (p : Bool) (bytes : List ℕ) (at : ℕ) (done : List PlainLine) (clean
   pub first_fault : IsFirstFault all f.kind f.at
   first_fault = record { stands = stands; least = least_of }
 
-pub faulty : (p : Bool) (bytes : List ℕ) (from at : ℕ) (q : PlainCondition) (ts : List PlainToken) (f : Fault)
+pub faulty : (p : Bool) (bytes : List ℕ) (from at : ℕ) (q : PlainCondition) (ts : List PlainToken) (f : Fault TextKind)
     → (got : ReadTo p bytes from at q) → at < length bytes → AreTokens p bytes at ts → begins_word (pieces ts) ≡ false
     → FailsFirst got.done ts f → HasFault p bytes from f.kind f.at
 faulty p bytes from at q ts f got lt are no_word fails =

@@ -1,25 +1,21 @@
 -- The items of a side: a quantity, behind a minus of its own or none.
-use Rattle.std.proofs.Common.{◌≡◌, ℕ, ◌<◌, suc, Bool, true, false, cond, not, List, [], ◌∷◌}
-use Rattle.std.proofs.Common.{◌++◌, Some, None, refl, sym, ap, subst, ◌∙◌, arith, ◌*ℤ◌}
+use Rattle.std.proofs.Common.{◌≡◌, ℕ, ◌<◌, suc, Bool, true, false, cond, not, List, [], ◌∷◌, ◌++◌, Some, None, refl}
+use Rattle.std.proofs.Common.{sym, ap, subst, ◌∙◌, arith, ◌*ℤ◌}
 use Rattle.std.proofs.lemmas.Int.{ints}
 use Rattle.lin_model.specs.Terms.{PlainTerm}
 use Rattle.lin_text.specs.declared.class.Lexeme.{Lexeme}
 use Rattle.lin_text.specs.Pieces.{Piece, name, number, minus, PlainToken, PlainLine, pieces, is_last}
 use Rattle.lin_text.specs.Classes.{class_of, shown}
-use Rattle.lin_text.specs.Grammar.{Item, quantity_size}
-use Rattle.lin_text.specs.Grammar.{item_pieces, signed, IsTerm}
-use Rattle.lin_text.specs.Faults.{declared_names}
-use Rattle.lin_text.specs.Reading.{lexeme_at, is_minus, is_times, is_name_class}
-use Rattle.lin_text.specs.Reading.{quantity_at, item_at}
+use Rattle.lin_text.specs.Grammar.{Item, quantity_size, item_pieces, signed, IsTerm, Naming}
+use Rattle.lin_text.specs.Faults.{known}
+use Rattle.lin_text.specs.Reading.{lexeme_at, is_minus, is_times, is_name_class, quantity_at, item_from}
 use Rattle.lin_text.proofs.Places.{Place, item, size, after, next}
-use Rattle.lin_text.proofs.Passing.{At, At-next, IsRoom}
-use Rattle.lin_text.proofs.Passing.{sign_passed}
-use Rattle.lin_text.proofs.Outcomes.{Token, token_of, Gets-one, Outcome, Outcome-after}
-use Rattle.lin_text.proofs.Outcomes.{Outcome-weaker}
+use Rattle.lin_text.proofs.Passing.{At, At-next, IsRoom, sign_passed}
+use Rattle.lin_text.proofs.Outcomes.{Token, token_of, Gets-one, Outcome, Outcome-after, Outcome-weaker}
 use Rattle.lin_text.proofs.Quantities.{IsQuantityAt, later_room, is_number, quantity_out}
 
 -- which term of a side an item is
-abbrev pub IsItemAt : Bool → List ℕ → List (List ℕ) → Bool → Bool → ℕ → PlainTerm → ℕ → List Piece → Place → Type 0
+abbrev pub IsItemAt : Bool → List ℕ → Naming → Bool → Bool → ℕ → PlainTerm → ℕ → List Piece → Place → Type 0
 IsItemAt p bytes names subtracted l k term to ps s =
     (i : Item) × (bare : Bool) × (ps ≡ item_pieces i) × IsTerm names subtracted i term × (s ≡ after l (suc k) bare)
     × (bare ≡ true → is_times (lexeme_at p bytes to).class ≡ false)
@@ -52,11 +48,11 @@ not_full l k lt r e = let same : k ≡ 64 = cc in absurd (omega arith)
 module _ (p : Bool) (bytes : List ℕ) (above : List PlainLine) (front : List Piece) (at : ℕ) (ts : List PlainToken)
     (l : Bool) (k : ℕ) (few : k < 64) (here : At false front (item l k)) (subtracted : Bool) where
   abbrev Means : PlainTerm → ℕ → List Piece → Place → Type 0
-  Means = IsItemAt p bytes (declared_names above) subtracted l k
+  Means = IsItemAt p bytes (known above) subtracted l k
 
   negated_out : (t : Token p bytes at ts) → IsRoom above front t.token.piece → t.token.piece ≡ minus
       → Outcome p bytes above false front ts Means
-      (quantity_at p bytes (declared_names above) (not subtracted) (lexeme_at p bytes t.token.to))
+      (quantity_at p bytes (known above) (not subtracted) (lexeme_at p bytes t.token.to))
   negated_out t room is =
       let first = Gets-one p bytes above false front at ts t (size l k)
       (sign_passed above false front (item l k) (size l k) t.token.piece (pieces t.more) here room
@@ -68,7 +64,7 @@ module _ (p : Bool) (bytes : List ℕ) (above : List PlainLine) (front : List Pi
       let second = token_of p bytes t.token.to first.rest first.there in
       Outcome-after p bytes above false front at ts Means t.token.to (size l k) (t.token.piece ∷ []) _ first
       (Outcome-weaker p bytes above false (front ++ t.token.piece ∷ []) first.rest
-      (IsQuantityAt p bytes (declared_names above) (not subtracted) l k)
+      (IsQuantityAt p bytes (known above) (not subtracted) l k)
       (λ b to qs u. Means b to ((t.token.piece ∷ []) ++ qs) u) _
       (λ b to qs u m. (
         record { negative = true; quantity = m.0 },
@@ -80,18 +76,18 @@ module _ (p : Bool) (bytes : List ℕ) (above : List PlainLine) (front : List Pi
         m.7,
       ))
       (subst (λ (x : Lexeme). Outcome p bytes above false (front ++ t.token.piece ∷ []) first.rest
-      (IsQuantityAt p bytes (declared_names above) (not subtracted) l k)
-      (quantity_at p bytes (declared_names above) (not subtracted) x)) (sym second.shows)
+      (IsQuantityAt p bytes (known above) (not subtracted) l k)
+      (quantity_at p bytes (known above) (not subtracted) x)) (sym second.shows)
       (quantity_out p bytes above (front ++ t.token.piece ∷ []) t.token.to first.rest second second.on
       (later_room above front t.token.piece second.token.piece) (size l k) l k first.place (λ r e. cc)
       (not subtracted) (λ n. refl) (λ x. refl) (λ q same f g. other_size l k q f g))))
 
   plain_out : (t : Token p bytes at ts) → IsRoom above front t.token.piece → is_minus (class_of t.token.piece) ≡ false
       → Outcome p bytes above false front ts Means
-      (quantity_at p bytes (declared_names above) subtracted (shown t.token))
+      (quantity_at p bytes (known above) subtracted (shown t.token))
   plain_out t room no_minus =
-      Outcome-weaker p bytes above false front ts (IsQuantityAt p bytes (declared_names above) subtracted l k) Means
-      (quantity_at p bytes (declared_names above) subtracted (shown t.token))
+      Outcome-weaker p bytes above false front ts (IsQuantityAt p bytes (known above) subtracted l k) Means
+      (quantity_at p bytes (known above) subtracted (shown t.token))
       (λ b to qs u m. (
         record { negative = false; quantity = m.0 },
         m.1,
@@ -106,17 +102,13 @@ module _ (p : Bool) (bytes : List ℕ) (above : List PlainLine) (front : List Pi
 
   by_piece : (t : Token p bytes at ts) → IsRoom above front t.token.piece → (q : Piece) → t.token.piece ≡ q → (b : Bool)
       → is_minus (class_of q) ≡ b → Outcome p bytes above false front ts Means
-      (cond b (quantity_at p bytes (declared_names above) (not subtracted) (lexeme_at p bytes t.token.to))
-      (quantity_at p bytes (declared_names above) subtracted (shown t.token)))
+      (cond b (quantity_at p bytes (known above) (not subtracted) (lexeme_at p bytes t.token.to))
+      (quantity_at p bytes (known above) subtracted (shown t.token)))
   by_piece t room q is false e = plain_out t room (ap (λ (r : Piece). is_minus (class_of r)) is ∙ e)
   by_piece t room minus is true e = negated_out t room is
   by_piece t room _ is true e = absurd (cc)
 
   pub item_out : (t : Token p bytes at ts) → IsRoom above front t.token.piece
-      → Outcome p bytes above false front ts Means (item_at p bytes (declared_names above) subtracted at)
-  unfolding item_at
-  item_out t room =
-      subst (λ (x : Lexeme). Outcome p bytes above false front ts Means
-      (cond (is_minus x.class) (quantity_at p bytes (declared_names above) (not subtracted)
-      (lexeme_at p bytes x.to)) (quantity_at p bytes (declared_names above) subtracted x))) (sym t.shows)
-      (by_piece t room t.token.piece refl (is_minus (class_of t.token.piece)) refl)
+      → Outcome p bytes above false front ts Means (item_from p bytes (known above) subtracted (shown t.token))
+  unfolding item_from
+  item_out t room = by_piece t room t.token.piece refl (is_minus (class_of t.token.piece)) refl

@@ -33,6 +33,7 @@ mod ReadBackLines
 mod ReadBack
 mod ReadBackWithin
 mod UniqueSides
+mod DistinctNames
 mod UniqueTerms
 mod Unique
 mod NoFaultTokens
@@ -42,3 +43,8 @@ mod NoFaultCompared
 mod NoFaultDeclared
 mod Longest
 mod SpelledOrFault
+mod NextLines
+mod NextTokens
+mod KeyAtomLemmas
+mod KeyAtomSpelled
+mod KeyAtomOnce

@@ -13,7 +13,7 @@ use Rattle.lin_text.specs.Lines.{line_from, line_below}
 use Rattle.lin_text.specs.Pieces.{Piece, compare, line_end as line_end_piece, PlainToken, PlainLine, pieces, AreTokens}
 use Rattle.lin_text.specs.Pieces.{AreLines}
 use Rattle.lin_text.specs.Grammar.{Quantity, constant, multiple, single, Side, sign, quantity_pieces, side_pieces}
-use Rattle.lin_text.specs.Grammar.{Declares, Compares}
+use Rattle.lin_text.specs.Grammar.{Declares, Compares, Naming, number_among}
 use Rattle.lin_text.specs.Faults.{begins_variable, begins_comparison, declared_name, declared_names, variable_count}
 use Rattle.lin_text.specs.Faults.{atom_count}
 use Rattle.lin_text.specs.Queries.{begins_word, is_of_query, names_of, AreDeclaredAndCompared}
@@ -77,14 +77,14 @@ declared-push above (l ∷ lines) line vars atoms v (inr h) d =
 
 compared-push : (above : List PlainVar) (lines : List PlainLine) (line : PlainLine) (vars : List PlainVar)
     (atoms : List Atom) (a : Atom) → AreDeclaredAndCompared above lines vars atoms
-    → Compares (names_of (above ++ vars)) (pieces line.tokens) a
+    → Compares (number_among (names_of (above ++ vars))) (pieces line.tokens) a
     → AreDeclaredAndCompared above (lines ++ line ∷ []) vars (atoms ++ a ∷ [])
 compared-push above [] line vars atoms a h c =
     inr (
       a,
       [],
       ap (λ (xs : List Atom). xs ++ a ∷ []) h.1,
-      subst (λ (vs : List PlainVar). Compares (names_of vs) (pieces line.tokens) a)
+      subst (λ (vs : List PlainVar). Compares (number_among (names_of vs)) (pieces line.tokens) a)
           (ap (λ (vs : List PlainVar). above ++ vs) h.0 ∙ append-nil above) c,
       (h.0, refl),
     )
@@ -95,7 +95,7 @@ compared-push above (l ∷ lines) line vars atoms a (inl h) c =
       h.2,
       h.3,
       compared-push (above ++ h.0 ∷ []) lines line h.1 atoms a h.4
-          (subst (λ (vs : List PlainVar). Compares (names_of vs) (pieces line.tokens) a)
+          (subst (λ (vs : List PlainVar). Compares (number_among (names_of vs)) (pieces line.tokens) a)
           (ap (λ (vs : List PlainVar). above ++ vs) h.2 ∙ sym (append_assoc above (h.0 ∷ []) h.1)) c),
     )
 compared-push above (l ∷ lines) line vars atoms a (inr h) c =
@@ -137,12 +137,12 @@ side-head s rest = by_first s.first.negative s.first.quantity _
     by_first false (multiple n x) more = (refl, refl, refl)
     by_first false (single x) more = (refl, refl, refl)
 
-comparison-head : (names : List (List ℕ)) (ps : List Piece) (a : Atom) → Compares names ps a
+comparison-head : (names : Naming) (ps : List Piece) (a : Atom) → Compares names ps a
     → (begins_variable ps ≡ false) × (begins_comparison ps ≡ true) × (declared_name ps ≡ [])
 comparison-head names ps a c =
-    let whole : ps ≡ side_pieces c.left ++ (compare a.cmp ∷ side_pieces c.right ++ line_end_piece ∷ []) = c.written
-    ∙ append_assoc (side_pieces c.left) (compare a.cmp ∷ side_pieces c.right) (line_end_piece ∷ []) in
-    let h = side-head c.left (compare a.cmp ∷ side_pieces c.right ++ line_end_piece ∷ []) in
+    let whole : ps ≡ side_pieces c.left ++ (compare c.sign ∷ side_pieces c.right ++ line_end_piece ∷ []) = c.written
+    ∙ append_assoc (side_pieces c.left) (compare c.sign ∷ side_pieces c.right) (line_end_piece ∷ []) in
+    let h = side-head c.left (compare c.sign ∷ side_pieces c.right ++ line_end_piece ∷ []) in
     (ap begins_variable whole ∙ h.0, ap begins_comparison whole ∙ h.1, ap declared_name whole ∙ h.2)
 
 fresh-differs : (vars : List PlainVar) (v : PlainVar) → (Contains (names_of vars) v.name → ⊥) → (k : ℕ) (d : PlainVar)
@@ -208,7 +208,7 @@ read_more p bytes from at q r ts got lt are no_word (clean, inl d) =
     })
 read_more p bytes from at q r ts got lt are no_word (clean, inr c) =
     let line : PlainLine = record { start = at; tokens = ts } in
-    let head = comparison-head (names_of q.vars) (pieces ts) c.added c.compares in
+    let head = comparison-head (number_among (names_of q.vars)) (pieces ts) c.added c.compares in
     subst (λ (x : PlainCondition). ReadTo p bytes from (line_from bytes (line_below bytes at)) x) (sym c.is) (record {
       done = got.done ++ line ∷ [];
       lines = λ rest h. subst (λ (ls : List PlainLine). AreLines p bytes from ls)

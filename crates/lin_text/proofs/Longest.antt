@@ -14,7 +14,7 @@ use Rattle.lin_text.specs.Tokens.{IsForm, IsLongest, symbols, token_length, begi
 use Rattle.lin_text.specs.Tokens.{symbol_length}
 
 -- what begins a name is no digit
-start-no_digit : (b : ℕ) → is_name_start b ≡ true → is_digit b ≡ false
+pub start-no_digit : (b : ℕ) → is_name_start b ≡ true → is_digit b ≡ false
 start-no_digit b start = grind (arith, leb_tells, eqb_tells)
 
 start-is_name_byte : (b : ℕ) → is_name_start b ≡ true → is_name_byte b ≡ true
@@ -122,12 +122,12 @@ symbol_text text (suc (suc (suc (suc (suc (suc (suc (suc (suc zero)))))))), lt, 
 symbol_text text (suc (suc (suc (suc (suc (suc (suc (suc (suc (suc k))))))))), lt, e) = absurd (omega (arith, lt))
 
 -- what begins a name, or a digit, begins no symbol
-no_symbol : (b : ℕ) (bs : List ℕ) → (is_name_start b ≡ true) ⊎ (is_digit b ≡ true) → ¬ Contains symbols (b ∷ bs)
+pub no_symbol : (b : ℕ) (bs : List ℕ) → (is_name_start b ≡ true) ⊎ (is_digit b ≡ true) → ¬ Contains symbols (b ∷ bs)
 no_symbol b bs (inl start) form = let s = symbol_text (b ∷ bs) form in cc
 no_symbol b bs (inr digit) form = let s = symbol_text (b ∷ bs) form in cc
 
 -- bytes that pass, as many as a run has
-run_passes : (p : ℕ → Bool) (bs : List ℕ) → All (λ c. IsTrue (p c)) (take (prefix_len p bs) bs)
+pub run_passes : (p : ℕ → Bool) (bs : List ℕ) → All (λ c. IsTrue (p c)) (take (prefix_len p bs) bs)
 run_passes p bs i d lt =
     let below : i < prefix_len p bs = omega (arith, length-take (prefix_len p bs) bs) in
     subst (λ (c : ℕ). IsTrue (p c)) (sym (get_or-take (prefix_len p bs) bs i d below))
@@ -186,7 +186,8 @@ number_longest b bs digit = record {
 }
 
 -- where neither begins, the front is a symbol
-symbol_front : (b : ℕ) (bs : List ℕ) (m : ℕ) → is_name_start b ≡ false → is_digit b ≡ false → IsForm (take m (b ∷ bs))
+pub symbol_front : (b : ℕ) (bs : List ℕ) (m : ℕ) → is_name_start b ≡ false → is_digit b ≡ false
+    → IsForm (take m (b ∷ bs))
     → (m ≢ 0) × Contains symbols (take m (b ∷ bs))
 symbol_front b bs zero no_name no_digit (inl form) = absurd (omega (arith, form.some))
 symbol_front b bs zero no_name no_digit (inr (inl form)) = absurd (omega (arith, form.some))

@@ -14,7 +14,7 @@ use Rattle.lin_text.specs.declared.class.Class.TheVariants.{Name}
 use Rattle.lin_text.specs.Lines.{is_feed, is_blank}
 use Rattle.lin_text.specs.Tokens.{token_length, symbol_length, kind_of, nothing_at, token_of, token_here, token_from}
 use Rattle.lin_text.specs.Pieces.{var, word, name, plus, minus, times, compare, piece_of, name_piece, symbol_piece}
-use Rattle.lin_text.specs.Pieces.{comparison_of, is_word, is_claim_word, plain_token, first_token, PlainToken}
+use Rattle.lin_text.specs.Pieces.{sign_of, is_word, is_claim_word, plain_token, first_token, PlainToken}
 use Rattle.lin_text.specs.Classes.{class_of}
 
 place_more : (p : ℕ → Bool) (x : ℕ) (ys : List ℕ) (j d : ℕ) → p x ≡ true
@@ -45,7 +45,7 @@ name_word false true text e = absurd (cc)
 name_word false false text e = refl
 
 no_name_symbol : (a b c : Bool) (text : List ℕ)
-    → class_of (cond a plus (cond b minus (cond c times (compare (comparison_of text))))) ≡ Name → ⊥
+    → class_of (cond a plus (cond b minus (cond c times (compare (sign_of text))))) ≡ Name → ⊥
 no_name_symbol true b c text e = cc
 no_name_symbol false true c text e = cc
 no_name_symbol false false true text e = cc

@@ -8,7 +8,7 @@ use Rattle.lin_model.specs.declared.atom.Atom.{Atom}
 use Rattle.lin_text.specs.Laws.{SpelledHasNoFault, SpelledLinesHaveNoFault}
 use Rattle.lin_text.specs.declared.fault.TextKind.{TextKind}
 use Rattle.lin_text.specs.Pieces.{Piece, PlainToken, PlainLine, pieces}
-use Rattle.lin_text.specs.Grammar.{Declares, Compares}
+use Rattle.lin_text.specs.Grammar.{Declares, Compares, number_among}
 use Rattle.lin_text.specs.Faults.{Stands}
 use Rattle.lin_text.specs.Queries.{names_of, query_lines, Spell, AreDeclaredAndCompared}
 use Rattle.lin_text.proofs.UniqueTokens.{AreLines-once}
@@ -41,7 +41,8 @@ no_stand above line below vars atoms front p after kind fits split shown stands 
         let all : atoms ≡ split.atoms_above ++ a ∷ more = split.all_atoms
         ∙ ap (λ (bs : List Atom). split.atoms_above ++ bs) e in
         no_stand-compared above (names_of split.vars_above) front p after a
-        (subst (λ (ps : List Piece). Compares (names_of split.vars_above) ps a) shown c) kind (sym split.names)
+        (subst (λ (ps : List Piece). Compares (number_among (names_of split.vars_above)) ps a) shown c) kind
+        (sym split.names)
         (omega (arith, split.atom_lines, fits.few_atoms, ap length all, length-append split.atoms_above (a ∷ more)))
         stands
 

@@ -7,7 +7,7 @@ use Rattle.std.proofs.lemmas.List.Sums.{sum_by-cons}
 use Rattle.lin_model.specs.Terms.{PlainVar}
 use Rattle.lin_model.specs.declared.atom.Atom.{Atom}
 use Rattle.lin_text.specs.Pieces.{Piece, PlainLine, pieces}
-use Rattle.lin_text.specs.Grammar.{Compares}
+use Rattle.lin_text.specs.Grammar.{Compares, Naming, number_among}
 use Rattle.lin_text.specs.Faults.{begins_variable, begins_comparison, declared_name, declared_names, variable_count}
 use Rattle.lin_text.specs.Faults.{atom_count}
 use Rattle.lin_text.specs.Queries.{names_of, AreDeclaredAndCompared}
@@ -32,16 +32,16 @@ counted : (f : PlainLine → Bool) (l : PlainLine) (ls : List PlainLine) (b : Bo
     → count_by f (l ∷ ls) ≡ cond b 1 0 + count_by f ls
 counted f l ls b e = sum_by-cons (λ x. cond (f x) 1 0) l ls ∙ ap (λ (c : Bool). cond c 1 0 + count_by f ls) e
 
-pub no_variable : (names : List (List ℕ)) (ps : List Piece) (a : Atom) → Compares names ps a
+pub no_variable : (names : Naming) (ps : List Piece) (a : Atom) → Compares names ps a
     → begins_variable ps ≡ false
 no_variable names ps a c =
     comparison_begins begins_variable false (λ qs. refl) (λ n qs. refl) (λ y qs. refl) names ps a c
 
-compares_more : (names : List (List ℕ)) (ps : List Piece) (a : Atom) → Compares names ps a → begins_comparison ps ≡ true
+compares_more : (names : Naming) (ps : List Piece) (a : Atom) → Compares names ps a → begins_comparison ps ≡ true
 compares_more names ps a c =
     comparison_begins begins_comparison true (λ qs. refl) (λ n qs. refl) (λ y qs. refl) names ps a c
 
-names_none : (names : List (List ℕ)) (ps : List Piece) (a : Atom) → Compares names ps a → declared_name ps ≡ []
+names_none : (names : Naming) (ps : List Piece) (a : Atom) → Compares names ps a → declared_name ps ≡ []
 names_none names ps a c = comparison_begins declared_name [] (λ qs. refl) (λ n qs. refl) (λ y qs. refl) names ps a c
 
 pub parts : (before : List PlainVar) (above lines : List PlainLine) (vars : List PlainVar) (atoms : List Atom)
@@ -95,17 +95,17 @@ parts before (l ∷ above) lines vars atoms (inr (a, more, e, c, h)) =
       all_vars = p.all_vars;
       all_atoms = e ∙ ap (λ (bs : List Atom). a ∷ bs) p.all_atoms;
       names = ap (λ (xs : List (List ℕ)). xs ++ declared_names above)
-          (names_none (names_of before) (pieces l.tokens) a c) ∙ p.names;
+          (names_none (number_among (names_of before)) (pieces l.tokens) a c) ∙ p.names;
       var_lines = omega (
         arith,
         counted (λ line. begins_variable (pieces line.tokens)) l above false
-            (no_variable (names_of before) (pieces l.tokens) a c),
+            (no_variable (number_among (names_of before)) (pieces l.tokens) a c),
         p.var_lines,
       );
       atom_lines = omega (
         arith,
         counted (λ line. begins_comparison (pieces line.tokens)) l above true
-            (compares_more (names_of before) (pieces l.tokens) a c),
+            (compares_more (number_among (names_of before)) (pieces l.tokens) a c),
         p.atom_lines,
       );
       left = p.left;

@@ -4,11 +4,11 @@ use Rattle.std.proofs.Common.{arith, append_assoc, inl, inr}
 use Rattle.std.specs.Prelude.{◌⊎◌, flat_map}
 use Rattle.lin_model.specs.Terms.{PlainTerm}
 use Rattle.lin_model.specs.declared.atom.Atom.{Atom}
-use Rattle.lin_model.specs.declared.atom.Cmp.{Cmp}
+use Rattle.lin_text.specs.declared.class.Sign.{Sign}
 use Rattle.lin_text.specs.Pieces.{Piece, name, number, minus, compare}
 use Rattle.lin_text.specs.Grammar.{Quantity, constant, multiple, single, Joined, Side, sign, quantity_pieces}
 use Rattle.lin_text.specs.Grammar.{item_pieces, joint, joined_pieces, side_pieces, item_count, AreTerms, IsExpr}
-use Rattle.lin_text.specs.Grammar.{Compares}
+use Rattle.lin_text.specs.Grammar.{Compares, Naming}
 use Rattle.lin_text.specs.Faults.{begins_times, EndsBeforeSide, EndsInFullSide}
 use Rattle.lin_text.proofs.UniqueSides.{ends_side, end, item-once, joined-once, side-once, later_no_times, no_joint}
 use Rattle.lin_text.proofs.UniqueSides.{no_times}
@@ -49,20 +49,20 @@ longer_side s t b ps more ends e =
     (later_no_times t.later more ends) flat in
     omega (arith, longer_later s.later t.later b ps more ends first.1)
 
-AreTerms-length : (names : List (List ℕ)) (js : List Joined) (ts : List PlainTerm) → AreTerms names js ts
+AreTerms-length : (names : Naming) (js : List Joined) (ts : List PlainTerm) → AreTerms names js ts
     → length js ≡ length ts
 AreTerms-length names [] ts are = sym (ap length are)
 AreTerms-length names (j ∷ js) [] are = absurd are
 AreTerms-length names (j ∷ js) (t ∷ ts) are = omega (arith, AreTerms-length names js ts are.1)
 
-few_items : (names : List (List ℕ)) (s : Side) (ts : List PlainTerm) → IsExpr names s ts → item_count s ≤ 64
+few_items : (names : Naming) (s : Side) (ts : List PlainTerm) → IsExpr names s ts → item_count s ≤ 64
 few_items names s ts is =
     omega (arith, AreTerms-length names (record { subtracted = false; item = s.first } ∷ s.later) ts is.0, is.1.few)
 
 -- a full side and one joint more, and what stands before them
 pub full_shape : (front ps : List Piece) (f : EndsInFullSide front)
     → (front ++ ps ≡ side_pieces f.side ++ joint f.subtracted ∷ ps)
-    ⊎ ((l : Side) × (c : Cmp) × (front ++ ps ≡ side_pieces l
+    ⊎ ((l : Side) × (c : Sign) × (front ++ ps ≡ side_pieces l
     ++ compare c ∷ (side_pieces f.side ++ joint f.subtracted ∷ ps)))
 full_shape front ps f = by_start f.starts
   where
@@ -77,7 +77,7 @@ full_shape front ps f = by_start f.starts
         ∙ (append_assoc (f.before ++ s) j ps ∙ append_assoc f.before s (j ++ ps))
 
     by_start : EndsBeforeSide f.before → (front ++ ps ≡ s ++ (j ++ ps))
-        ⊎ ((l : Side) × (c : Cmp) × (front ++ ps ≡ side_pieces l ++ compare c ∷ (s ++ (j ++ ps))))
+        ⊎ ((l : Side) × (c : Sign) × (front ++ ps ≡ side_pieces l ++ compare c ∷ (s ++ (j ++ ps))))
     by_start (inl none) = inl (whole ∙ ap (λ (xs : List Piece). xs ++ (s ++ (j ++ ps))) none)
     by_start (inr (l, c, e)) = inr (
       l,
@@ -88,31 +88,31 @@ full_shape front ps f = by_start f.starts
     )
 
 -- no side of a comparison has more items than it may have
-pub no_full_side : (names : List (List ℕ)) (front ps : List Piece) (a : Atom) → Compares names (front ++ ps) a
+pub no_full_side : (names : Naming) (front ps : List Piece) (a : Atom) → Compares names (front ++ ps) a
     → EndsInFullSide front → ⊥
 unfolding ends_side
 no_full_side names front ps a c f = by_shape (full_shape front ps f)
   where
-    written : front ++ ps ≡ side_pieces c.left ++ (compare a.cmp ∷ (side_pieces c.right ++ end))
-    written = c.written ∙ append_assoc (side_pieces c.left) (compare a.cmp ∷ side_pieces c.right) end
+    written : front ++ ps ≡ side_pieces c.left ++ (compare c.sign ∷ (side_pieces c.right ++ end))
+    written = c.written ∙ append_assoc (side_pieces c.left) (compare c.sign ∷ side_pieces c.right) end
 
     by_shape : ((front ++ ps ≡ side_pieces f.side ++ joint f.subtracted ∷ ps)
-        ⊎ ((l : Side) × (d : Cmp) × (front ++ ps ≡ side_pieces l
+        ⊎ ((l : Side) × (d : Sign) × (front ++ ps ≡ side_pieces l
         ++ compare d ∷ (side_pieces f.side ++ joint f.subtracted ∷ ps)))) → ⊥
     by_shape (inl e) = absurd (omega (
       arith,
       f.full,
       few_items names c.left a.left c.left_terms,
-      longer_side f.side c.left f.subtracted ps (compare a.cmp ∷ (side_pieces c.right ++ end)) refl (sym e
+      longer_side f.side c.left f.subtracted ps (compare c.sign ∷ (side_pieces c.right ++ end)) refl (sym e
           ∙ written),
     ))
     by_shape (inr (l, d, e)) =
         let first = side-once l c.left (compare d ∷ (side_pieces f.side ++ joint f.subtracted ∷ ps))
-        (compare a.cmp ∷ (side_pieces c.right ++ end)) refl refl (sym e ∙ written) in
+        (compare c.sign ∷ (side_pieces c.right ++ end)) refl refl (sym e ∙ written) in
         let both : compare d ∷ (side_pieces f.side ++ joint f.subtracted ∷ ps)
-        ≡ compare a.cmp ∷ (side_pieces c.right ++ end) = first.1 in
+        ≡ compare c.sign ∷ (side_pieces c.right ++ end) = first.1 in
         let rest : side_pieces f.side ++ joint f.subtracted ∷ ps ≡ side_pieces c.right
-        ++ end = behind d a.cmp (side_pieces f.side ++ joint f.subtracted ∷ ps) (side_pieces c.right ++ end) both in
+        ++ end = behind d c.sign (side_pieces f.side ++ joint f.subtracted ∷ ps) (side_pieces c.right ++ end) both in
         absurd (omega (
           arith,
           f.full,
@@ -120,7 +120,7 @@ no_full_side names front ps a c f = by_shape (full_shape front ps f)
           longer_side f.side c.right f.subtracted ps end refl rest,
         ))
       where
-        behind : (x y : Cmp) (xs ys : List Piece) → compare x ∷ xs ≡ compare y ∷ ys → xs ≡ ys
+        behind : (x y : Sign) (xs ys : List Piece) → compare x ∷ xs ≡ compare y ∷ ys → xs ≡ ys
         behind x y xs ys h = cc
 
 -- a side begins with `-`, a number or a name
@@ -138,7 +138,7 @@ module _ {X : Type 0} (f : List Piece → X) (x : X) (at_minus : (ps : List Piec
   side_begins s more = ap f (append_assoc (item_pieces s.first) (flat_map joined_pieces s.later) more)
       ∙ item_begins s.first.negative s.first.quantity (flat_map joined_pieces s.later ++ more)
 
-  pub comparison_begins : (names : List (List ℕ)) (ps : List Piece) (a : Atom) → Compares names ps a → f ps ≡ x
+  pub comparison_begins : (names : Naming) (ps : List Piece) (a : Atom) → Compares names ps a → f ps ≡ x
   comparison_begins names ps a c = ap f (c.written
-      ∙ append_assoc (side_pieces c.left) (compare a.cmp ∷ side_pieces c.right) end)
-      ∙ side_begins c.left (compare a.cmp ∷ (side_pieces c.right ++ end))
+      ∙ append_assoc (side_pieces c.left) (compare c.sign ∷ side_pieces c.right) end)
+      ∙ side_begins c.left (compare c.sign ∷ (side_pieces c.right ++ end))

@@ -1,15 +1,15 @@
 -- No token of a line that declares or compares is at fault.
 use Rattle.std.proofs.Common.{◌≡◌, ℕ, ◌≤◌, ◌^◌, Bool, true, false, List, [], ◌∷◌, ◌++◌, refl, sym, ap, subst, ◌∙◌}
 use Rattle.std.proofs.Common.{arith, append_assoc, ℤ, pos, neg_ℤ, ◌≤ℤ◌, ◌*ℤ◌, Option, Some, None}
-use Rattle.std.specs.Prelude.{Contains, IsTrue, slice_get, unsigned_abs, flat_map}
+use Rattle.std.specs.Prelude.{IsTrue, unsigned_abs, flat_map}
 use Rattle.std.proofs.lemmas.Int.{ints}
-use Rattle.std.proofs.lemmas.Option.{slice_get_within, get_or_from_slice_get}
 use Rattle.lin_model.specs.Terms.{PlainVar, PlainTerm, TermFits, limit_of}
 use Rattle.lin_model.specs.declared.atom.Atom.{Atom}
 use Rattle.lin_text.specs.Pieces.{Piece, var, name, number, compare, bad}
 use Rattle.lin_text.specs.Grammar.{Integer, Quantity, constant, multiple, single, Item, Joined, Side, sign}
 use Rattle.lin_text.specs.Grammar.{integer_pieces, quantity_pieces, quantity_size, item_pieces, joint, joined_pieces}
 use Rattle.lin_text.specs.Grammar.{side_pieces, signed, integer_value, IsOn, IsTerm, AreTerms, Declares, Compares}
+use Rattle.lin_text.specs.Grammar.{Naming}
 use Rattle.lin_text.specs.Faults.{begins_times}
 use Rattle.lin_text.proofs.UniqueSides.{ends_side, end, later_no_times}
 
@@ -23,11 +23,11 @@ pub Every-at : (P : Piece → List Piece → Type 0) (front : List Piece) (p : P
 Every-at P [] p after h = h.0
 Every-at P (q ∷ front) p after h = Every-at P front p after h.1
 
--- a token of a comparison, where these names are known
-abbrev pub InComparison : List (List ℕ) → Piece → List Piece → Type 0
+-- a token of a comparison, where names have these numbers
+abbrev pub InComparison : Naming → Piece → List Piece → Type 0
 InComparison names bad after = ⊥
 InComparison names (number n) after = (n ≤ 2 ^ 40) × (IsTrue (begins_times after) → n ≤ 2 ^ 31)
-InComparison names (name x) after = Contains names x
+InComparison names (name x) after = (k : ℕ) × (names x ≡ Some k)
 InComparison names _ after = Unit {0}
 
 -- a token of a declaration
@@ -48,37 +48,34 @@ within_limit : (t : PlainTerm) (v : Option ℕ) (n : ℕ) → unsigned_abs t.fac
 within_limit t v n size on fits =
     subst (λ (m : ℕ). m ≤ limit_of v) size (subst (λ (w : Option ℕ). unsigned_abs t.factor ≤ limit_of w) on fits)
 
-known : (names : List (List ℕ)) (k : ℕ) (x : List ℕ) → slice_get names k ≡ Some x → Contains names x
-known names k x at = (k, slice_get_within names k x at, get_or_from_slice_get names k x x at)
-
-Every-quantity : (names : List (List ℕ)) (a : Quantity) (t : PlainTerm) (more : List Piece)
+Every-quantity : (names : Naming) (a : Quantity) (t : PlainTerm) (more : List Piece)
     → unsigned_abs t.factor ≡ quantity_size a → IsOn names a t.var → TermFits t → begins_times more ≡ false
     → Every (InComparison names) more → Every (InComparison names) (quantity_pieces a ++ more)
 Every-quantity names (constant n) t more size on fits behind rest =
     ((within_limit t None n size on fits, λ h. absurd (let e : true ≡ false = sym h ∙ behind in cc)), rest)
 Every-quantity names (multiple n x) t more size (k, e, at) fits behind rest =
     let small : n ≤ 2 ^ 31 = within_limit t (Some k) n size e fits in
-    ((omega (arith, small), λ h. small), (tt, (known names k x at, rest)))
-Every-quantity names (single x) t more size (k, e, at) fits behind rest = (known names k x at, rest)
+    ((omega (arith, small), λ h. small), (tt, ((k, at), rest)))
+Every-quantity names (single x) t more size (k, e, at) fits behind rest = ((k, at), rest)
 
-Every-sign : (names : List (List ℕ)) (b : Bool) (qs more : List Piece) → Every (InComparison names) (qs ++ more)
+Every-sign : (names : Naming) (b : Bool) (qs more : List Piece) → Every (InComparison names) (qs ++ more)
     → Every (InComparison names) ((sign b ++ qs) ++ more)
 Every-sign names true qs more h = (tt, h)
 Every-sign names false qs more h = h
 
-Every-item : (names : List (List ℕ)) (sub : Bool) (i : Item) (t : PlainTerm) (more : List Piece) → IsTerm names sub i t
+Every-item : (names : Naming) (sub : Bool) (i : Item) (t : PlainTerm) (more : List Piece) → IsTerm names sub i t
     → begins_times more ≡ false → Every (InComparison names) more → Every (InComparison names) (item_pieces i ++ more)
 Every-item names sub i t more is behind rest =
     Every-sign names i.negative (quantity_pieces i.quantity) more
     (Every-quantity names i.quantity t more (ap (λ (z : ℤ). unsigned_abs z) is.factor
     ∙ size_of sub i.negative (quantity_size i.quantity)) is.on is.fits behind rest)
 
-Every-joint : (names : List (List ℕ)) (b : Bool) (ps : List Piece) → Every (InComparison names) ps
+Every-joint : (names : Naming) (b : Bool) (ps : List Piece) → Every (InComparison names) ps
     → Every (InComparison names) (joint b ∷ ps)
 Every-joint names true ps h = (tt, h)
 Every-joint names false ps h = (tt, h)
 
-Every-later : (names : List (List ℕ)) (js : List Joined) (ts : List PlainTerm) (more : List Piece)
+Every-later : (names : Naming) (js : List Joined) (ts : List PlainTerm) (more : List Piece)
     → AreTerms names js ts → ends_side more ≡ true → Every (InComparison names) more
     → Every (InComparison names) (flat_map joined_pieces js ++ more)
 Every-later names [] ts more are ends rest = rest
@@ -91,7 +88,7 @@ Every-later names (j ∷ js) (t ∷ ts) more are ends rest =
     (Every-item names j.subtracted j.item t behind are.0 (later_no_times js more ends)
     (Every-later names js ts more are.1 ends rest)))
 
-Every-side : (names : List (List ℕ)) (s : Side) (ts : List PlainTerm) (more : List Piece)
+Every-side : (names : Naming) (s : Side) (ts : List PlainTerm) (more : List Piece)
     → AreTerms names (record { subtracted = false; item = s.first } ∷ s.later) ts → ends_side more ≡ true
     → Every (InComparison names) more → Every (InComparison names) (side_pieces s ++ more)
 unfolding side_pieces
@@ -103,13 +100,13 @@ Every-side names s (t ∷ ts) more are ends rest =
     (Every-item names false s.first t behind are.0 (later_no_times s.later more ends)
     (Every-later names s.later ts more are.1 ends rest))
 
-pub Every-comparison : (names : List (List ℕ)) (ps : List Piece) (a : Atom) → Compares names ps a
+pub Every-comparison : (names : Naming) (ps : List Piece) (a : Atom) → Compares names ps a
     → Every (InComparison names) ps
 unfolding ends_side
 Every-comparison names ps a c =
     subst (λ (qs : List Piece). Every (InComparison names) qs)
-    (sym (c.written ∙ append_assoc (side_pieces c.left) (compare a.cmp ∷ side_pieces c.right) end))
-    (Every-side names c.left a.left (compare a.cmp ∷ (side_pieces c.right ++ end)) c.left_terms.0 refl (
+    (sym (c.written ∙ append_assoc (side_pieces c.left) (compare c.sign ∷ side_pieces c.right) end))
+    (Every-side names c.left a.left (compare c.sign ∷ (side_pieces c.right ++ end)) c.left_terms.0 refl (
       tt,
       Every-side names c.right a.right end c.right_terms.0 refl (tt, tt),
     ))

@@ -1,12 +1,12 @@
 -- What it means that a part of a line is read: up to which token no fault stands, or which one is the first.
 use Rattle.std.proofs.Common.{◌≡◌, ℕ, Bool, true, false, List, [], ◌∷◌, ◌++◌, refl, sym, ap, subst, ◌∙◌, append_assoc}
-use Rattle.std.specs.Prelude.{Result, Ok, Err, MatchBool}
+use Rattle.std.specs.Prelude.{Ok, Err, MatchBool}
 use Rattle.std.proofs.lemmas.List.{append-nil, map-append}
 use Rattle.lin_text.specs.declared.fault.TextKind.{TextKind}
 use Rattle.lin_text.specs.declared.refusal.Fault.{Fault}
 use Rattle.lin_text.specs.Pieces.{Piece, PlainToken, PlainLine, pieces, AreTokens, first_token, is_last}
 use Rattle.lin_text.specs.Classes.{shown}
-use Rattle.lin_text.specs.Reading.{lexeme_at, fault_at, ◌>>=◌}
+use Rattle.lin_text.specs.Reading.{Read, lexeme_at, fault_at, ◌>>=◌}
 use Rattle.lin_text.proofs.Places.{Place}
 use Rattle.lin_text.proofs.Passing.{At, NoFault, FirstStands}
 
@@ -59,14 +59,15 @@ pub record Gets (p : Bool) (bytes : List ℕ) (above : List PlainLine) (v : Bool
   pub place : At v (front ++ ps) s
 
 -- the fault is the first from here on
-pub record Fails (above : List PlainLine) (front : List Piece) (ts : List PlainToken) (f : Fault) : Type 0 where
-  pub used : List PlainToken
-  pub token : PlainToken
-  pub after : List PlainToken
-  pub split : ts ≡ used ++ token ∷ after
-  pub at : f.at ≡ token.from
-  pub passes : Passes above front (pieces used) (token.piece ∷ pieces after)
-  pub first : FirstStands above (front ++ pieces used) token.piece (pieces after) f.kind
+pub record Fails (above : List PlainLine) (front : List Piece) (ts : List PlainToken) (f : Fault TextKind) : Type 0
+  where
+    pub used : List PlainToken
+    pub token : PlainToken
+    pub after : List PlainToken
+    pub split : ts ≡ used ++ token ∷ after
+    pub at : f.at ≡ token.from
+    pub passes : Passes above front (pieces used) (token.piece ∷ pieces after)
+    pub first : FirstStands above (front ++ pieces used) token.piece (pieces after) f.kind
 
 module _ (p : Bool) (bytes : List ℕ) (above : List PlainLine) (v : Bool) (front : List Piece) (at : ℕ)
     (ts : List PlainToken) where
@@ -129,7 +130,8 @@ module _ (p : Bool) (bytes : List ℕ) (above : List PlainLine) (v : Bool) (fron
         place = subst (λ (f : List Piece). At v f u) (append_assoc front ps qs) h.place;
       }
 
-  abbrev pub Fails-behind : (a : ℕ) (s : Place) (ps : List Piece) (f : Fault) (g : Gets p bytes above v front ts a s ps)
+  abbrev pub Fails-behind : (a : ℕ) (s : Place) (ps : List Piece) (f : Fault TextKind)
+      (g : Gets p bytes above v front ts a s ps)
       → Fails above (front ++ ps) g.rest f → Fails above front ts f
   Fails-behind a s ps f g h =
       let all : pieces (g.used ++ h.used) ≡ pieces g.used
@@ -159,7 +161,7 @@ module _ (p : Bool) (bytes : List ℕ) (above : List PlainLine) (v : Bool) (fron
 
 -- what was read means M of its tokens and of the place behind them; else it is the first fault
 abbrev pub Outcome : {A : Type 0} → Bool → List ℕ → List PlainLine → Bool → List Piece → List PlainToken
-    → (A → ℕ → List Piece → Place → Type 0) → Result (A × ℕ) Fault → Type 0
+    → (A → ℕ → List Piece → Place → Type 0) → Read (A × ℕ) → Type 0
 Outcome p bytes above v front ts M (Ok x) =
     (ps : List Piece) × (s : Place) × M x.0 x.1 ps s × Gets p bytes above v front ts x.1 s ps
 Outcome p bytes above v front ts M (Err f) = Fails above front ts f
@@ -167,7 +169,7 @@ Outcome p bytes above v front ts M (Err f) = Fails above front ts f
 -- behind tokens that were passed
 pub Outcome-after : {B : Type 0} (p : Bool) (bytes : List ℕ) (above : List PlainLine) (v : Bool) (front : List Piece)
     (at : ℕ) (ts : List PlainToken) (N : B → ℕ → List Piece → Place
-    → Type 0) (a : ℕ) (s : Place) (ps : List Piece) (r : Result (B × ℕ) Fault)
+    → Type 0) (a : ℕ) (s : Place) (ps : List Piece) (r : Read (B × ℕ))
     (g : Gets p bytes above v front ts a s ps)
     → Outcome p bytes above v (front ++ ps) g.rest (λ b to qs u. N b to (ps ++ qs) u) r
     → Outcome p bytes above v front ts N r
@@ -177,7 +179,7 @@ Outcome-after p bytes above v front at ts N a s ps (Err f) g h = Fails-behind p 
 
 pub Outcome-then : {A B : Type 0} (p : Bool) (bytes : List ℕ) (above : List PlainLine) (v : Bool) (front : List Piece)
     (at : ℕ) (ts : List PlainToken) (M : A → ℕ → List Piece → Place → Type 0) (N : B → ℕ → List Piece → Place
-    → Type 0) (r : Result (A × ℕ) Fault) (g : A × ℕ → Result (B × ℕ) Fault) → Outcome p bytes above v front ts M r
+    → Type 0) (r : Read (A × ℕ)) (g : A × ℕ → Read (B × ℕ)) → Outcome p bytes above v front ts M r
     → ((a : A) (to : ℕ) (ps : List Piece) (s : Place) → M a to ps s → At v (front ++ ps) s → (rest : List PlainToken)
     → AreTokens p bytes to rest → Outcome p bytes above v (front ++ ps) rest (λ b to qs u. N b to (ps ++ qs) u)
     (g (a, to))) → Outcome p bytes above v front ts N (r >>= g)
@@ -189,13 +191,13 @@ Outcome-then p bytes above v front at ts M N (Ok x) g o k =
 -- the same tokens, with another value and meaning
 pub Outcome-map : {A B : Type 0} (p : Bool) (bytes : List ℕ) (above : List PlainLine) (v : Bool) (front : List Piece)
     (ts : List PlainToken) (M : A → ℕ → List Piece → Place → Type 0) (N : B → ℕ → List Piece → Place → Type 0) (h : A
-    → B) (r : Result (A × ℕ) Fault) → ((a : A) (to : ℕ) (ps : List Piece) (s : Place) → M a to ps s → N (h a) to ps s)
+    → B) (r : Read (A × ℕ)) → ((a : A) (to : ℕ) (ps : List Piece) (s : Place) → M a to ps s → N (h a) to ps s)
     → Outcome p bytes above v front ts M r → Outcome p bytes above v front ts N (r >>= λ x. Ok (h x.0, x.1))
 Outcome-map p bytes above v front ts M N h (Ok x) f o = (o.0, o.1, f x.0 x.1 o.0 o.1 o.2, o.3)
 Outcome-map p bytes above v front ts M N h (Err e) f o = o
 
 pub Outcome-weaker : {A : Type 0} (p : Bool) (bytes : List ℕ) (above : List PlainLine) (v : Bool) (front : List Piece)
-    (ts : List PlainToken) (M N : A → ℕ → List Piece → Place → Type 0) (r : Result (A × ℕ) Fault)
+    (ts : List PlainToken) (M N : A → ℕ → List Piece → Place → Type 0) (r : Read (A × ℕ))
     → ((a : A) (to : ℕ) (ps : List Piece) (s : Place) → M a to ps s → N a to ps s)
     → Outcome p bytes above v front ts M r → Outcome p bytes above v front ts N r
 Outcome-weaker p bytes above v front ts M N (Ok x) f o = (o.0, o.1, f x.0 x.1 o.0 o.1 o.2, o.3)

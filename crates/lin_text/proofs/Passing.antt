@@ -11,7 +11,8 @@ use Rattle.lin_text.specs.Classes.{class_of}
 use Rattle.lin_text.specs.Reading.{refusal_kind}
 use Rattle.lin_text.specs.Grammar.{side_pieces, item_count, joint, BeginsLine}
 use Rattle.lin_text.specs.Faults.{begins_variable, begins_atom, begins_item, declared_names, atom_count, EndsInFullSide}
-use Rattle.lin_text.specs.Faults.{IsTooLarge, Stands, rank}
+use Rattle.lin_text.specs.Faults.{IsTooLarge, Stands}
+use Rattle.lin_text.specs.Kinds.{rank}
 use Rattle.lin_text.proofs.Places.{Place, start, var_name, item, size, after, next, after_next, run, run-append}
 use Rattle.lin_text.proofs.Places.{run-joint, run-side, start-side, run-BeginsLine}
 use Rattle.lin_text.proofs.Shapes.{Shape, Shape-next, BeginsLine-run}

@@ -9,7 +9,7 @@ use borrow.Author.Tests.{ltb-true}
 use Rattle.lin_text.specs.declared.token.TokenKind.{TokenKind}
 use Rattle.lin_text.specs.declared.token.TokenKind.TheVariants.{Name, Number, Symbol, Bad, LineEnd}
 use Rattle.lin_text.specs.Pieces.{var, word, name, plus, minus, times, compare, piece_of, name_piece, symbol_piece}
-use Rattle.lin_text.specs.Pieces.{comparison_of, is_word, plain_token, first_token, PlainToken}
+use Rattle.lin_text.specs.Pieces.{sign_of, is_word, plain_token, first_token, PlainToken}
 
 found_at : (q : List ℕ → Bool) (xs : List (List ℕ)) → prefix_len (λ x. not (q x)) xs < length xs
     → (y : List ℕ) × (slice_get xs (prefix_len (λ x. not (q x)) xs) ≡ Some y) × (q y ≡ true)
@@ -80,7 +80,7 @@ name_piece-name false true text x e = absurd (cc)
 name_piece-name false false text x e = cc
 
 symbol_piece-name : (a b c : Bool) (text x : List ℕ)
-    → cond a plus (cond b minus (cond c times (compare (comparison_of text)))) ≡ name x → ⊥
+    → cond a plus (cond b minus (cond c times (compare (sign_of text)))) ≡ name x → ⊥
 symbol_piece-name true b c text x e = cc
 symbol_piece-name false true c text x e = cc
 symbol_piece-name false false true text x e = cc

@@ -1,31 +1,30 @@
 -- The quantity of an item, token by token: a number, a name, or a number times a name.
-use Rattle.std.proofs.Common.{◌≡◌, ℕ, ◌+◌, ◌^◌, ◌<◌, ◌≤◌, min, suc, Bool, true, false, cond, nat_lt, List, [], ◌∷◌}
-use Rattle.std.proofs.Common.{◌++◌, Option, Some, None, refl, sym, ap, subst, ◌∙◌, arith, ℤ, inl, inr, position}
-use Rattle.std.specs.Prelude.{Result, Ok, Err, MatchBool, Contains, slice_get, bytes_eq, unsigned_abs}
+use Rattle.std.proofs.Common.{◌≡◌, ℕ, ◌^◌, ◌<◌, ◌≤◌, min, suc, Bool, true, false, cond, nat_lt, List, [], ◌∷◌}
+use Rattle.std.proofs.Common.{◌++◌, Option, Some, None, refl, sym, ap, subst, ◌∙◌, arith, ℤ, inl, inr}
+use Rattle.std.specs.Prelude.{Ok, Err, MatchBool, Contains, unsigned_abs, slice_range}
 use Rattle.std.proofs.lemmas.Int.{ints}
 use borrow.Author.Tests.{ltb-true, ltb-false}
 use Rattle.lin_model.specs.Terms.{PlainTerm, TermFits}
 use Rattle.lin_text.specs.declared.fault.TextKind.TheVariants.{NumberTooLarge, UnknownName}
-use Rattle.lin_text.specs.declared.refusal.Fault.{Fault}
 use Rattle.lin_text.specs.declared.class.Lexeme.{Lexeme}
 use Rattle.lin_text.specs.Pieces.{Piece, name, number, minus, times, PlainToken, PlainLine, pieces, AreTokens, is_last}
 use Rattle.lin_text.specs.Classes.{class_of, shown}
-use Rattle.lin_text.specs.Grammar.{Quantity, constant, multiple, single, quantity_pieces, quantity_size}
-use Rattle.lin_text.specs.Grammar.{signed, IsOn}
-use Rattle.lin_text.specs.Faults.{IsTooLarge, begins_times, begins_variable, declared_names}
-use Rattle.lin_text.specs.Reading.{lexeme_at, fault_at, refusal, refusal_kind, is_times, is_name_class}
-use Rattle.lin_text.specs.Reading.{number_in, variable_by, variable_of, number_at, quantity_by, quantity_at}
+use Rattle.lin_text.specs.Grammar.{Quantity, constant, multiple, single, quantity_pieces, quantity_size, signed, IsOn}
+use Rattle.lin_text.specs.Grammar.{Naming}
+use Rattle.lin_text.specs.Faults.{IsTooLarge, begins_times, begins_variable, declared_names, known}
+use Rattle.lin_text.specs.Reading.{Read, lexeme_at, fault_at, refusal, refusal_kind, is_times, is_name_class}
+use Rattle.lin_text.specs.Reading.{variable_by, variable_of, number_at, quantity_by, quantity_at}
 use Rattle.lin_text.proofs.Places.{Place, size, after, factor, next}
 use Rattle.lin_text.proofs.Passing.{At, At-next, IsRoom, NoFault, not-nil, refused, small_rank, name_rank, passed}
 use Rattle.lin_text.proofs.Passing.{sign_passed}
 use Rattle.lin_text.proofs.Outcomes.{Token, token_of, Gets, Gets-one, Fails, Fails-one, Outcome, Outcome-after}
 use Rattle.lin_text.proofs.Outcomes.{Outcome-weaker}
-use Rattle.lin_text.proofs.PositionLemmas.{position-found, position-none, Contains-position, name-text}
+use Rattle.lin_text.proofs.PositionLemmas.{position-none, Contains-position, name-text}
 
 -- a name stands there, of a declared variable
-abbrev pub IsNamed : List (List ℕ) → ℤ → Place → PlainTerm → ℕ → List Piece → Place → Type 0
+abbrev pub IsNamed : Naming → ℤ → Place → PlainTerm → ℕ → List Piece → Place → Type 0
 IsNamed names f u term to ps s = (x : List ℕ) × (k : ℕ) × (ps ≡ name x ∷ [])
-    × (term ≡ record { factor = f; var = Some k }) × (slice_get names k ≡ Some x) × (s ≡ u)
+    × (term ≡ record { factor = f; var = Some k }) × (names x ≡ Some k) × (s ≡ u)
 
 module _ (p : Bool) (bytes : List ℕ) (above : List PlainLine) (front : List Piece) (at : ℕ) (ts : List PlainToken)
     (t : Token p bytes at ts) (room : IsRoom above front t.token.piece) where
@@ -37,8 +36,8 @@ module _ (p : Bool) (bytes : List ℕ) (above : List PlainLine) (front : List Pi
 
   found : (w u : Place) → At false front w → (x : List ℕ) → t.token.piece ≡ name x → next w (name x) ≡ Some u
       → ((l : Bool) → next w minus ≡ Some (size l 64) → ⊥) → (f : ℤ) → (o : Option ℕ)
-      → number_in (declared_names above) bytes (shown t.token) ≡ o
-      → Outcome p bytes above false front ts (IsNamed (declared_names above) f u) (variable_by o (shown t.token) f)
+      → known above (slice_range bytes t.token.from t.token.to) ≡ o
+      → Outcome p bytes above false front ts (IsNamed (known above) f u) (variable_by o (shown t.token) f)
   found w u here x is some space f None e =
       Fails-one p bytes above false front at ts t UnknownName (record {
         stands = (
@@ -46,19 +45,16 @@ module _ (p : Bool) (bytes : List ℕ) (above : List PlainLine) (front : List Pi
           is,
           here.kind,
           position-none x (declared_names above)
-              (ap (λ (y : List ℕ). position (bytes_eq y) (declared_names above))
-              (name-text p bytes at t.token x t.is is) ∙ e),
+              (ap (known above) (name-text p bytes at t.token x t.is is) ∙ e),
         );
         least = name_rank above false front w u t.token.piece (pieces t.more) here room (ap (next w) is ∙ some) space
             (λ n same. let no : name x ≡ number n = sym is ∙ same in cc);
       })
   found w u here x is some space f (Some k) e =
-      let there : position (bytes_eq x) (declared_names above)
-      ≡ Some k = ap (λ (y : List ℕ). position (bytes_eq y) (declared_names above))
-      (name-text p bytes at t.token x t.is is) ∙ e in (
+      let there : known above x ≡ Some k = ap (known above) (name-text p bytes at t.token x t.is is) ∙ e in (
         t.token.piece ∷ [],
         u,
-        (x, k, ap (λ (q : Piece). q ∷ []) is, refl, position-found x (declared_names above) k there, refl),
+        (x, k, ap (λ (q : Piece). q ∷ []) is, refl, there, refl),
         Gets-one p bytes above false front at ts t u
             (passed above false front w u t.token.piece (pieces t.more) here room (ap (next w) is ∙ some) space
             (λ n same. let no : name x ≡ number n = sym is ∙ same in absurd (cc))
@@ -72,12 +68,12 @@ module _ (p : Bool) (bytes : List ℕ) (above : List PlainLine) (front : List Pi
 
   pub name_out : (w u : Place) → At false front w → (x : List ℕ) → t.token.piece ≡ name x → next w (name x) ≡ Some u
       → ((l : Bool) → next w minus ≡ Some (size l 64) → ⊥) → (f : ℤ)
-      → Outcome p bytes above false front ts (IsNamed (declared_names above) f u)
-      (variable_of bytes (declared_names above) (shown t.token) f)
+      → Outcome p bytes above false front ts (IsNamed (known above) f u)
+      (variable_of bytes (known above) (shown t.token) f)
   unfolding variable_of
   name_out w u here x is some space f =
-      subst (λ (b : Bool). Outcome p bytes above false front ts (IsNamed (declared_names above) f u)
-      (cond b (variable_by (number_in (declared_names above) bytes (shown t.token)) (shown t.token) f)
+      subst (λ (b : Bool). Outcome p bytes above false front ts (IsNamed (known above) f u)
+      (cond b (variable_by (known above (slice_range bytes t.token.from t.token.to)) (shown t.token) f)
       (Err (refusal (shown t.token)))))
       (sym (ap (λ (r : Piece). is_name_class (class_of r)) is)) (found w u here x is some space f _ refl)
 
@@ -85,14 +81,14 @@ module _ (p : Bool) (bytes : List ℕ) (above : List PlainLine) (front : List Pi
   pub variable_out : (w u : Place) → At false front w → ((x : List ℕ) → next w (name x) ≡ Some u)
       → ((q : Piece) → is_name_class (class_of q) ≡ false → next w q ≡ None)
       → ((l : Bool) → next w minus ≡ Some (size l 64) → ⊥) → (f : ℤ)
-      → Outcome p bytes above false front ts (IsNamed (declared_names above) f u)
-      (variable_of bytes (declared_names above) (shown t.token) f)
+      → Outcome p bytes above false front ts (IsNamed (known above) f u)
+      (variable_of bytes (known above) (shown t.token) f)
   unfolding variable_of
   variable_out w u here some other space f = by_piece t.token.piece refl
     where
       Goal : Bool → Type 0
-      Goal b = Outcome p bytes above false front ts (IsNamed (declared_names above) f u)
-          (cond b (variable_by (number_in (declared_names above) bytes (shown t.token)) (shown t.token) f)
+      Goal b = Outcome p bytes above false front ts (IsNamed (known above) f u)
+          (cond b (variable_by (known above (slice_range bytes t.token.from t.token.to)) (shown t.token) f)
           (Err (refusal (shown t.token))))
 
       by_piece : (q : Piece) → t.token.piece ≡ q → Goal (is_name_class (class_of t.token.piece))
@@ -102,7 +98,7 @@ module _ (p : Bool) (bytes : List ℕ) (above : List PlainLine) (front : List Pi
           (refuse w here (ap (next w) is ∙ other q refl))
 
 -- a term's factor, and which quantity it is; behind a number alone no `*` comes
-abbrev pub IsQuantityAt : Bool → List ℕ → List (List ℕ) → Bool → Bool → ℕ → PlainTerm → ℕ → List Piece → Place → Type 0
+abbrev pub IsQuantityAt : Bool → List ℕ → Naming → Bool → Bool → ℕ → PlainTerm → ℕ → List Piece → Place → Type 0
 IsQuantityAt p bytes names negative l n term to ps s =
     (q : Quantity) × (bare : Bool) × (ps ≡ quantity_pieces q) × (term.factor ≡ signed negative (quantity_size q))
     × IsOn names q term.var × TermFits term × (s ≡ after l (suc n) bare)
@@ -127,17 +123,17 @@ times-begins p bytes at ts are =
     by_piece times qs = refl
     by_piece _ qs = refl
 
-over_31 : (n : ℕ) → nat_lt (2 ^ 31) (min n (2 ^ 40 + 1)) ≡ true → 2 ^ 31 < n
-over_31 n e = omega (arith, ltb-true (2 ^ 31) (min n (2 ^ 40 + 1)) e)
+over_31 : (n : ℕ) → nat_lt (2 ^ 31) (min n (2 ^ 50)) ≡ true → 2 ^ 31 < n
+over_31 n e = omega (arith, ltb-true (2 ^ 31) (min n (2 ^ 50)) e)
 
-over_40 : (n : ℕ) → nat_lt (2 ^ 40) (min n (2 ^ 40 + 1)) ≡ true → 2 ^ 40 < n
-over_40 n e = omega (arith, ltb-true (2 ^ 40) (min n (2 ^ 40 + 1)) e)
+over_40 : (n : ℕ) → nat_lt (2 ^ 40) (min n (2 ^ 50)) ≡ true → 2 ^ 40 < n
+over_40 n e = omega (arith, ltb-true (2 ^ 40) (min n (2 ^ 50)) e)
 
-within_31 : (n : ℕ) → nat_lt (2 ^ 31) (min n (2 ^ 40 + 1)) ≡ false → n ≤ 2 ^ 31
-within_31 n e = omega (arith, ltb-false (2 ^ 31) (min n (2 ^ 40 + 1)) e)
+within_31 : (n : ℕ) → nat_lt (2 ^ 31) (min n (2 ^ 50)) ≡ false → n ≤ 2 ^ 31
+within_31 n e = omega (arith, ltb-false (2 ^ 31) (min n (2 ^ 50)) e)
 
-within_40 : (n : ℕ) → nat_lt (2 ^ 40) (min n (2 ^ 40 + 1)) ≡ false → n ≤ 2 ^ 40
-within_40 n e = omega (arith, ltb-false (2 ^ 40) (min n (2 ^ 40 + 1)) e)
+within_40 : (n : ℕ) → nat_lt (2 ^ 40) (min n (2 ^ 50)) ≡ false → n ≤ 2 ^ 40
+within_40 n e = omega (arith, ltb-false (2 ^ 40) (min n (2 ^ 50)) e)
 
 times-only : (q : Piece) → is_times (class_of q) ≡ true → q ≡ times
 times-only times e = refl
@@ -153,13 +149,13 @@ module _ (p : Bool) (bytes : List ℕ) (above : List PlainLine) (front : List Pi
     (here : At false front w) (n : ℕ) (is : t.token.piece ≡ number n)
     (some : next w (number n) ≡ Some (after l (suc k) true)) (space : (r : Bool) → next w minus ≡ Some (size r 64)
     → ⊥) (negative : Bool) where
-  abbrev pub names : List (List ℕ)
-  names = declared_names above
+  abbrev pub names : Naming
+  names = known above
 
   abbrev pub capped : ℕ
-  capped = min n (2 ^ 40 + 1)
+  capped = min n (2 ^ 50)
 
-  abbrev pub Goal : Result (PlainTerm × ℕ) Fault → Type 0
+  abbrev pub Goal : Read (PlainTerm × ℕ) → Type 0
   Goal r = Outcome p bytes above false front ts (IsQuantityAt p bytes names negative l k) r
 
   number_passed : (IsTooLarge front n (pieces t.more) → ⊥) → NoFault above front t.token.piece (pieces t.more)
@@ -306,15 +302,15 @@ module _ (p : Bool) (bytes : List ℕ) (above : List PlainLine) (front : List Pi
       → ((x : List ℕ) → next w (name x) ≡ Some (after l (suc k) false))
       → ((q : Piece) → t.token.piece ≡ q → is_number q ≡ false → is_name_class (class_of q) ≡ false → next w q ≡ None)
       → (q : Piece) → t.token.piece ≡ q → Outcome p bytes above false front ts
-      (IsQuantityAt p bytes (declared_names above) negative l k)
-      (quantity_by (class_of q) p bytes (declared_names above) negative (shown t.token))
+      (IsQuantityAt p bytes (known above) negative l k)
+      (quantity_by (class_of q) p bytes (known above) negative (shown t.token))
   quantity_by_out num nam other (number n) is =
       number_out p bytes above front at ts t room w l k here n is (num n) space negative (more (ap is_last is))
   quantity_by_out num nam other (name x) is =
       Outcome-weaker p bytes above false front ts
-      (IsNamed (declared_names above) (signed negative 1) (after l (suc k) false))
-      (IsQuantityAt p bytes (declared_names above) negative l k)
-      (variable_of bytes (declared_names above) (shown t.token) (signed negative 1))
+      (IsNamed (known above) (signed negative 1) (after l (suc k) false))
+      (IsQuantityAt p bytes (known above) negative l k)
+      (variable_of bytes (known above) (shown t.token) (signed negative 1))
       (λ b to qs u m. (
         single m.0,
         false,
@@ -333,7 +329,7 @@ module _ (p : Bool) (bytes : List ℕ) (above : List PlainLine) (front : List Pi
   pub quantity_out : ((n : ℕ) → next w (number n) ≡ Some (after l (suc k) true))
       → ((x : List ℕ) → next w (name x) ≡ Some (after l (suc k) false))
       → ((q : Piece) → t.token.piece ≡ q → is_number q ≡ false → is_name_class (class_of q) ≡ false → next w q ≡ None)
-      → Outcome p bytes above false front ts (IsQuantityAt p bytes (declared_names above) negative l k)
-      (quantity_at p bytes (declared_names above) negative (shown t.token))
+      → Outcome p bytes above false front ts (IsQuantityAt p bytes (known above) negative l k)
+      (quantity_at p bytes (known above) negative (shown t.token))
   unfolding quantity_at
   quantity_out num nam other = quantity_by_out num nam other t.token.piece refl

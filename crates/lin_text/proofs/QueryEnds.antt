@@ -11,11 +11,12 @@ use Rattle.lin_model.specs.Conditions.{PlainCondition, Fits, NamesBelow, AtomNam
 use Rattle.lin_model.specs.declared.atom.Atom.{Atom}
 use Rattle.lin_text.specs.Lines.{line_below}
 use Rattle.lin_text.specs.Pieces.{PlainToken, PlainLine, pieces, AreTokens}
-use Rattle.lin_text.specs.Grammar.{Quantity, constant, multiple, single, Joined, IsOn, AreTerms}
+use Rattle.lin_text.specs.Grammar.{Quantity, constant, multiple, single, Joined, IsOn, AreTerms, number_among}
 use Rattle.lin_text.specs.Queries.{begins_word, is_of_query, query_lines, start_of, names_of, AreDeclaredAndCompared}
 use Rattle.lin_text.specs.Queries.{Spells}
 use Rattle.lin_text.proofs.Positions.{lines_total}
 use Rattle.lin_text.proofs.LinesRead.{Here, AllOfQuery, ReadTo}
+use Rattle.lin_text.proofs.PositionLemmas.{position-found}
 
 pub query-lines : (done rest : List PlainLine) → AllOfQuery done → query_lines (done ++ rest) ≡ done ++ query_lines rest
 query-lines [] rest h = refl
@@ -36,15 +37,19 @@ query-rest (l ∷ done) rest h =
     ≡ suc (prefix_len is_of_query (done ++ rest)) = omega arith in s)
     ∙ query-rest done rest h.1
 
-on-below : (names : List (List ℕ)) (q : Quantity) (v : Option ℕ) (n : ℕ) → IsOn names q v → length names ≤ n
+on-below : (names : List (List ℕ)) (q : Quantity) (v : Option ℕ) (n : ℕ) → IsOn (number_among names) q v
+    → length names ≤ n
     → IfSome v (λ k. k < n)
 on-below names (constant m) v n on le = subst (λ (o : Option ℕ). IfSome o (λ k. k < n)) (sym on) tt
 on-below names (multiple m x) v n on le =
-    subst (λ (o : Option ℕ). IfSome o (λ k. k < n)) (sym on.1) (omega (arith, slice_get_within names on.0 x on.2))
+    subst (λ (o : Option ℕ). IfSome o (λ k. k < n)) (sym on.1)
+    (omega (arith, slice_get_within names on.0 x (position-found x names on.0 on.2)))
 on-below names (single x) v n on le =
-    subst (λ (o : Option ℕ). IfSome o (λ k. k < n)) (sym on.1) (omega (arith, slice_get_within names on.0 x on.2))
+    subst (λ (o : Option ℕ). IfSome o (λ k. k < n)) (sym on.1)
+    (omega (arith, slice_get_within names on.0 x (position-found x names on.0 on.2)))
 
-terms-below : (names : List (List ℕ)) (js : List Joined) (terms : List PlainTerm) (n : ℕ) → AreTerms names js terms
+terms-below : (names : List (List ℕ)) (js : List Joined) (terms : List PlainTerm) (n : ℕ)
+    → AreTerms (number_among names) js terms
     → length names ≤ n → NamesBelow n terms
 terms-below names [] terms n h le = λ k d lt. absurd (let none : length terms ≡ 0 = ap length h in omega arith)
 terms-below names (j ∷ js) [] n h le = absurd h

@@ -1,7 +1,7 @@
 -- A line of a query: what it adds, or its first fault.
 use Rattle.std.proofs.Common.{◌≡◌, ℕ, ◌^◌, ◌≤◌, Bool, true, false, cond, nat_eq, List, [], ◌∷◌, ◌++◌, length, None}
 use Rattle.std.proofs.Common.{refl, sym, ap, subst, ◌∙◌, append_assoc, arith, ℤ, pos, neg_ℤ, ◌≤ℤ◌, inl, inr, ◌⊎◌, lit≤}
-use Rattle.std.specs.Prelude.{Result, Ok, Err, Contains, IsTrue, slice_range}
+use Rattle.std.specs.Prelude.{Ok, Err, Contains, IsTrue, slice_range}
 use Rattle.std.proofs.lemmas.Int.{ints}
 use Rattle.std.proofs.lemmas.Bool.Decides.{nat_tests}
 use Rattle.lin_model.specs.Terms.{PlainVar}
@@ -13,12 +13,14 @@ use Rattle.lin_text.specs.declared.refusal.Fault.{Fault}
 use Rattle.lin_text.specs.Pieces.{Piece, var, word, name, number, plus, minus, times, compare, bad, line_end}
 use Rattle.lin_text.specs.Pieces.{PlainToken, PlainLine, pieces, is_last}
 use Rattle.lin_text.specs.Classes.{class_of, shown}
-use Rattle.lin_text.specs.Grammar.{integer_pieces, integer_value, Declares, Compares}
+use Rattle.lin_text.specs.Grammar.{integer_pieces, integer_value, Declares, Compares, number_among}
 use Rattle.lin_text.specs.Faults.{begins_atom, begins_item, declared_names, variable_count, atom_count, IsEmptyRange}
-use Rattle.lin_text.specs.Faults.{Stands, rank}
+use Rattle.lin_text.specs.Faults.{Stands, known}
+use Rattle.lin_text.specs.Kinds.{rank}
 use Rattle.lin_text.specs.Queries.{names_of}
-use Rattle.lin_text.specs.Reading.{fault_at, refusal, refusal_kind, is_var_class, begins_atom_class, full_query_at}
-use Rattle.lin_text.specs.Reading.{variable_at, declaration_at, atom_at, var_line_at, atom_line_at, line_at, ◌>>=◌}
+use Rattle.lin_text.specs.Reading.{Read, fault_at, refusal, refusal_kind, is_var_class, begins_atom_class}
+use Rattle.lin_text.specs.Reading.{full_query_at, variable_at, declaration_at, atom_from, var_line_at, atom_line_at}
+use Rattle.lin_text.specs.Reading.{line_at, ◌>>=◌}
 use Rattle.lin_text.proofs.Places.{start, var_name, item, next, run}
 use Rattle.lin_text.proofs.Shapes.{BeginsLine-run}
 use Rattle.lin_text.proofs.Passing.{At, At-var, At-start, NoFault, FirstStands, refused}
@@ -36,7 +38,7 @@ pub record IsClean (above : List PlainLine) (ts : List PlainToken) : Type 0 wher
   pub not_empty : NotEmptyLine (pieces ts)
 
 -- the first fault of the line
-pub record FailsFirst (above : List PlainLine) (ts : List PlainToken) (f : Fault) : Type 0 where
+pub record FailsFirst (above : List PlainLine) (ts : List PlainToken) (f : Fault TextKind) : Type 0 where
   pub fails : Fails above [] ts f
   pub not_empty : NotEmptyLine (pieces ts) ⊎ (length fails.used ≤ 2)
 
@@ -50,9 +52,9 @@ pub record Declared (names : List (List ℕ)) (ps : List Piece) (q r : PlainCond
 pub record Compared (names : List (List ℕ)) (ps : List Piece) (q r : PlainCondition) : Type 0 where
   pub added : Atom
   pub is : r ≡ record { vars = q.vars; atoms = q.atoms ++ added ∷ [] }
-  pub compares : Compares names ps added
+  pub compares : Compares (number_among names) ps added
 
-abbrev pub LineResult : List PlainLine → List PlainToken → PlainCondition → Result PlainCondition Fault → Type 0
+abbrev pub LineResult : List PlainLine → List PlainToken → PlainCondition → Read PlainCondition → Type 0
 LineResult above ts q (Ok r) =
     IsClean above ts × (Declared (names_of q.vars) (pieces ts) q r ⊎ Compared (names_of q.vars) (pieces ts) q r)
 LineResult above ts q (Err f) = FailsFirst above ts f
@@ -64,7 +66,7 @@ eq_false : (m n : ℕ) → nat_eq m n ≡ false → m ≡ n → ⊥
 eq_false m n e = grind (arith, nat_tests)
 
 -- the same fault behind the word as it stands
-abbrev moved : (above : List PlainLine) (ts : List PlainToken) (f : Fault) (r : Piece) → r ≡ var
+abbrev moved : (above : List PlainLine) (ts : List PlainToken) (f : Fault TextKind) (r : Piece) → r ≡ var
     → Fails above (var ∷ []) ts f → Fails above (r ∷ []) ts f
 moved above ts f r is g = record {
   used = g.used;
@@ -119,7 +121,7 @@ module _ (p : Bool) (bytes : List ℕ) (above : List PlainLine) (q : PlainCondit
   low_bound z true n e le = rw e (omega (arith, ints), omega (arith, ints))
   low_bound z false n e le = rw e (omega (arith, ints), omega (arith, ints))
 
-  declared_by : (is : t.token.piece ≡ var) → (few : length q.vars ≡ 64 → ⊥) → (r : Result (ℕ × ℕ × ℤ × ℤ) Fault)
+  declared_by : (is : t.token.piece ≡ var) → (few : length q.vars ≡ 64 → ⊥) → (r : Read (ℕ × ℕ × ℤ × ℤ))
       → DeclarationOut bytes above t.more r → LineResult above ts q
       ((r >>= λ d. Ok (record { name = slice_range bytes d.0 d.1; lo = d.2; hi = d.3 })) >>= λ v.
       Ok (record { vars = q.vars ++ v ∷ []; atoms = q.atoms }))
@@ -227,8 +229,8 @@ module _ (p : Bool) (bytes : List ℕ) (above : List PlainLine) (q : PlainCondit
       (record { vars = λ _ is. no_var is; atoms = λ _ b _. let f : true ≡ false = sym b ∙ e in cc })
       (no_atom t.token.piece e))
 
-  compared_by : (t.token.piece ≡ var → ⊥) → (r : Result Atom Fault)
-      → LineOut above [] ts (λ atom ps. Compares (declared_names above) ps atom) r
+  compared_by : (t.token.piece ≡ var → ⊥) → (r : Read Atom)
+      → LineOut above [] ts (λ atom ps. Compares (known above) ps atom) r
       → LineResult above ts q (r >>= λ a. Ok (record { vars = q.vars; atoms = q.atoms ++ a ∷ [] }))
   compared_by no_var (Err f) o = record { fails = o; not_empty = inl (no_var_line no_var) }
   compared_by no_var (Ok a) o = (
@@ -237,17 +239,18 @@ module _ (p : Bool) (bytes : List ℕ) (above : List PlainLine) (q : PlainCondit
       added = a;
       is = refl;
       compares =
-          subst (λ (names : List (List ℕ)). Compares names (pieces ts) a) named o.0;
+          subst (λ (names : List (List ℕ)). Compares (number_among names) (pieces ts) a) named o.0;
     }),
   )
 
-  atom_line_out : (t.token.piece ≡ var → ⊥) → LineResult above ts q (atom_line_at p bytes q (shown t.token) at)
+  atom_line_out : (t.token.piece ≡ var → ⊥) → LineResult above ts q (atom_line_at p bytes q (shown t.token))
   unfolding atom_line_at full_query_at
   atom_line_out no_var =
       elim (nat_eq (length q.atoms) 256) as (λ b. nat_eq (length q.atoms) 256 ≡ b
       → LineResult above ts q (cond b (Err (cond (begins_atom_class (class_of t.token.piece))
       (fault_at kinds.TooManyAtoms t.token.from) (refusal (shown t.token))))
-      (atom_at p bytes (names_of q.vars) at >>= λ a. Ok (record { vars = q.vars; atoms = q.atoms ++ a ∷ [] })))) [
+      (atom_from p bytes (number_among (names_of q.vars)) (shown t.token) >>= λ a. Ok
+      (record { vars = q.vars; atoms = q.atoms ++ a ∷ [] })))) [
         | true ↦ λ e. record {
           fails =
               subst (λ (b : Bool). Fails above [] ts
@@ -256,18 +259,18 @@ module _ (p : Bool) (bytes : List ℕ) (above : List PlainLine) (q : PlainCondit
               (full_by no_var (atoms ∙ eq_true (length q.atoms) 256 e) (begins_atom t.token.piece) refl);
           not_empty = inl (no_var_line no_var);
         }
-        | false ↦ λ e. compared_by no_var (atom_at p bytes (names_of q.vars) at)
-            (subst (λ (names : List (List ℕ)). LineOut above [] ts (λ atom ps. Compares (declared_names above) ps atom)
-            (atom_at p bytes names at)) named
+        | false ↦ λ e. compared_by no_var (atom_from p bytes (number_among (names_of q.vars)) (shown t.token))
+            (subst (λ (names : List (List ℕ)). LineOut above [] ts (λ atom ps. Compares (known above) ps atom)
+            (atom_from p bytes (number_among names) (shown t.token))) named
             (atom_out p bytes above at ts t no_var (λ full. eq_false (length q.atoms) 256 e (sym atoms ∙ full))))
       ] refl
 
   by_piece : (r : Piece) → t.token.piece ≡ r
       → LineResult above ts q (cond (is_var_class (class_of r)) (var_line_at p bytes q (shown t.token))
-      (atom_line_at p bytes q (shown t.token) at))
+      (atom_line_at p bytes q (shown t.token)))
   by_piece var is = var_out is
   by_piece r is = atom_line_out (λ v. let f : r ≡ var = sym is ∙ v in cc)
 
-  pub line_out : LineResult above ts q (line_at p bytes q (shown t.token) at)
+  pub line_out : LineResult above ts q (line_at p bytes q (shown t.token))
   unfolding line_at
   line_out = by_piece t.token.piece refl

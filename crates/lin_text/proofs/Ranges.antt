@@ -1,13 +1,14 @@
 -- The bounds of a declaration to the end of its line, token by token.
-use Rattle.std.proofs.Common.{◌≡◌, ℕ, ◌+◌, ◌^◌, ◌≤◌, min, Bool, true, false, cond, not, T, nat_lt, List, [], ◌∷◌, ◌++◌}
-use Rattle.std.proofs.Common.{Some, None, refl, sym, ap, subst, ◌∙◌, append_assoc, arith, ◌⊎◌, ℤ, pos}
-use Rattle.std.proofs.Common.{neg_ℤ, ◌<ℤ◌, ◌≤ℤ◌, inl, inr}
-use Rattle.std.specs.Prelude.{Result, Ok, Err, int_lt}
+use Rattle.std.proofs.Common.{◌≡◌, ℕ, ◌^◌, ◌≤◌, min, Bool, true, false, cond, not, T, nat_lt, List, [], ◌∷◌, ◌++◌}
+use Rattle.std.proofs.Common.{Some, None, refl, sym, ap, subst, ◌∙◌, append_assoc, arith, ◌⊎◌, ℤ, pos, neg_ℤ, ◌<ℤ◌}
+use Rattle.std.proofs.Common.{◌≤ℤ◌, inl, inr}
+use Rattle.std.specs.Prelude.{Ok, Err, int_lt}
 use Rattle.std.proofs.lemmas.Int.{ints}
 use Rattle.std.proofs.lemmas.List.{map-append}
 use Rattle.std.specs.Int.Signed.{lt_z_yes, lt_z_no}
 use borrow.Author.Tests.{ltb-true}
 use Rattle.lin_text.specs.declared.fault.TextKind.TheVariants.{EmptyRange, NumberTooLarge}
+use Rattle.lin_text.specs.declared.fault.TextKind.{TextKind}
 use Rattle.lin_text.specs.declared.refusal.Fault.{Fault}
 use Rattle.lin_text.specs.declared.class.Lexeme.{Lexeme}
 use Rattle.lin_text.specs.Pieces.{Piece, var, name, number, minus, line_end, PlainToken, PlainLine, pieces, AreTokens}
@@ -15,9 +16,8 @@ use Rattle.lin_text.specs.Pieces.{is_last}
 use Rattle.lin_text.specs.Classes.{class_of, shown}
 use Rattle.lin_text.specs.Grammar.{Integer, sign, integer_pieces, integer_value}
 use Rattle.lin_text.specs.Faults.{IsEmptyRange}
-use Rattle.lin_text.specs.Reading.{lexeme_at, fault_at, is_minus, is_end_class}
-use Rattle.lin_text.specs.Reading.{bound_by, bound_of, integer_at, range_at, end_at}
-use Rattle.lin_text.specs.Reading.{◌>>=◌}
+use Rattle.lin_text.specs.Reading.{Read, lexeme_at, fault_at, is_minus, is_end_class, bound_by, bound_of, integer_at}
+use Rattle.lin_text.specs.Reading.{range_at, end_at, ◌>>=◌}
 use Rattle.lin_text.proofs.Places.{Place, low, low_number, high, high_number, var_end, next}
 use Rattle.lin_text.proofs.Passing.{At, IsRoom, late_rank}
 use Rattle.lin_text.proofs.Outcomes.{Passes, token_of, Fails, Fails-one, Fails-behind, Outcome}
@@ -28,20 +28,20 @@ pub var_room : (above : List PlainLine) (front : List Piece) (q : Piece) → (fr
 var_room above front q some = record { vars = λ e _. some e; atoms = λ e _ _. some e }
 
 -- what is spelled as an integer is read as it
-not_over : (n : ℕ) → n ≤ 2 ^ 31 → (b : Bool) → nat_lt (2 ^ 31) (min n (2 ^ 40 + 1)) ≡ b → b ≡ false
-not_over n le true e = absurd (omega (arith, ltb-true (2 ^ 31) (min n (2 ^ 40 + 1)) e))
+not_over : (n : ℕ) → n ≤ 2 ^ 31 → (b : Bool) → nat_lt (2 ^ 31) (min n (2 ^ 50)) ≡ b → b ≡ false
+not_over n le true e = absurd (omega (arith, ltb-true (2 ^ 31) (min n (2 ^ 50)) e))
 not_over n le false e = refl
 
 bound_reads : (t : PlainToken) (n : ℕ) → t.piece ≡ number n → n ≤ 2 ^ 31 → bound_of (shown t) ≡ Ok (pos n, t.to)
 unfolding bound_of
 bound_reads t n is le =
-    let same : min n (2 ^ 40 + 1) ≡ n = omega arith in
+    let same : min n (2 ^ 50) ≡ n = omega arith in
     ap (λ (q : Piece). bound_by (class_of q) (shown t)) is
-    ∙ ap (λ (b : Bool). cond b (Err (fault_at NumberTooLarge t.from)) (Ok (pos (min n (2 ^ 40 + 1)), t.to)))
+    ∙ ap (λ (b : Bool). cond b (Err (fault_at NumberTooLarge t.from)) (Ok (pos (min n (2 ^ 50)), t.to)))
     (not_over n le _ refl)
     ∙ ap (λ (m : ℕ). Ok (pos m, t.to)) same
 
-abbrev integer_by : Bool → List ℕ → Lexeme → Result (ℤ × ℕ) Fault
+abbrev integer_by : Bool → List ℕ → Lexeme → Read (ℤ × ℕ)
 integer_by p bytes l =
     cond (is_minus l.class) (bound_of (lexeme_at p bytes l.to) >>= λ n. Ok (neg_ℤ n.0, n.1)) (bound_of l)
 
@@ -85,7 +85,7 @@ reads_minus p bytes at ts n more le are e =
           ∙ ap (λ (q : Piece). cond (is_minus (class_of q))
           (bound_of (lexeme_at p bytes t.token.to) >>= λ m. Ok (neg_ℤ m.0, m.1)) (bound_of (shown t.token))) is
           ∙ ap (λ (l : Lexeme). bound_of l >>= λ m. Ok (neg_ℤ m.0, m.1)) u.shows
-          ∙ ap (λ (r : Result (ℤ × ℕ) Fault). r >>= λ m. Ok (neg_ℤ m.0, m.1)) (bound_reads u.token n isn le),
+          ∙ ap (λ (r : Read (ℤ × ℕ)). r >>= λ m. Ok (neg_ℤ m.0, m.1)) (bound_reads u.token n isn le),
       u.on (ap is_last isn),
       cc,
     )
@@ -115,20 +115,20 @@ IsRange lo hi ps =
 -- the bounds and the end of the line are read, and the range isn't empty; or the first fault is behind the first token,
 -- or the range is empty
 abbrev pub RangeOut : {X : Type 0} → List PlainLine → List Piece → List PlainToken → (ℤ → ℤ → X → Type 0)
-    → Result X Fault → Type 0
+    → Read X → Type 0
 RangeOut above front ts N (Ok x) = (lo : ℤ) × (hi : ℤ) × N lo hi x × IsRange lo hi (pieces ts) × (lo ≤ℤ hi)
     × Passes above front (pieces ts) [] × (IsEmptyRange (pieces ts) → ⊥)
 RangeOut above front ts N (Err f) = (g : Fails above front ts f) × ((IsEmptyRange (pieces ts) → ⊥) ⊎ (g.used ≡ []))
 
-range_by : {X : Type 0} → Bool → List ℕ → ℕ → (ℤ → ℤ → ℕ → Result X Fault) → Result X Fault
+range_by : {X : Type 0} → Bool → List ℕ → ℕ → (ℤ → ℤ → ℕ → Read X) → Read X
 range_by p bytes at g =
     integer_at p bytes at >>= λ lo. integer_at p bytes lo.1 >>= λ hi.
     cond (int_lt hi.0 lo.0) (Err (fault_at EmptyRange (lexeme_at p bytes at).from)) (g lo.0 hi.0 hi.1)
 
-abbrev ranged : Bool → Fault → ℤ → ℤ → ℕ → Result (ℤ × ℤ × ℕ) Fault
+abbrev ranged : Bool → Fault TextKind → ℤ → ℤ → ℕ → Read (ℤ × ℤ × ℕ)
 ranged empty f lo hi to = cond empty (Err f) (Ok (lo, hi, to))
 
-range_at-then : {X : Type 0} (p : Bool) (bytes : List ℕ) (at : ℕ) (g : ℤ → ℤ → ℕ → Result X Fault)
+range_at-then : {X : Type 0} (p : Bool) (bytes : List ℕ) (at : ℕ) (g : ℤ → ℤ → ℕ → Read X)
     → (range_at p bytes at >>= λ r. g r.0 r.1 r.2) ≡ range_by p bytes at g
 unfolding range_at range_by
 range_at-then {X} p bytes at g =
@@ -198,10 +198,10 @@ module _ {X : Type 0} (p : Bool) (bytes : List ℕ) (above : List PlainLine) (fr
   some : front ≡ [] → ⊥
   some e = let no : var ∷ name x ∷ [] ≡ [] = sym starts ∙ e in cc
 
-  abbrev ends_with : ℤ → ℤ → ℕ → Result X Fault
+  abbrev ends_with : ℤ → ℤ → ℕ → Read X
   ends_with lo hi to = end_at p bytes to >>= λ _. Ok (value lo hi)
 
-  abbrev Goal : Result X Fault → Type 0
+  abbrev Goal : Read X → Type 0
   Goal r = RangeOut above front ts (λ lo hi y. y ≡ value lo hi) r
 
   -- the range is empty
@@ -284,13 +284,13 @@ module _ {X : Type 0} (p : Bool) (bytes : List ℕ) (above : List PlainLine) (fr
         refl,
       ))))
 
-  first_fails : (f : Fault) → integer_at p bytes at ≡ Err f → IsEmptyRange (pieces ts) → ⊥
+  first_fails : (f : Fault TextKind) → integer_at p bytes at ≡ Err f → IsEmptyRange (pieces ts) → ⊥
   first_fails f e h =
       let r = range_reads p bytes at ts are h in
       let no : Err f ≡ Ok (r.0, r.2) = sym e ∙ r.4 in
       absurd (cc)
 
-  second_fails : (lo : ℤ × ℕ) (f : Fault) → integer_at p bytes at ≡ Ok lo → integer_at p bytes lo.1 ≡ Err f
+  second_fails : (lo : ℤ × ℕ) (f : Fault TextKind) → integer_at p bytes at ≡ Ok lo → integer_at p bytes lo.1 ≡ Err f
       → IsEmptyRange (pieces ts) → ⊥
   second_fails lo f e1 e2 h =
       let r = range_reads p bytes at ts are h in
@@ -300,7 +300,7 @@ module _ {X : Type 0} (p : Bool) (bytes : List ℕ) (above : List PlainLine) (fr
       absurd (cc)
 
   second_out : (lo : ℤ × ℕ) → integer_at p bytes at ≡ Ok lo
-      → (o : Outcome p bytes above true front ts (IsIntegerAt high) (Ok lo)) → (r : Result (ℤ × ℕ) Fault)
+      → (o : Outcome p bytes above true front ts (IsIntegerAt high) (Ok lo)) → (r : Read (ℤ × ℕ))
       → integer_at p bytes lo.1 ≡ r → Outcome p bytes above true (front ++ o.0) o.3.rest (IsIntegerAt var_end) r
       → Goal (r >>= λ hi. cond (int_lt hi.0 lo.0) (Err (fault_at EmptyRange (lexeme_at p bytes at).from))
       (ends_with lo.0 hi.0 hi.1))
@@ -313,7 +313,7 @@ module _ {X : Type 0} (p : Bool) (bytes : List ℕ) (above : List PlainLine) (fr
         | false ↦ λ e. proper_out lo hi e1 e2 o u e
       ] refl
 
-  first_out : (r : Result (ℤ × ℕ) Fault) → integer_at p bytes at ≡ r
+  first_out : (r : Read (ℤ × ℕ)) → integer_at p bytes at ≡ r
       → Outcome p bytes above true front ts (IsIntegerAt high) r
       → Goal (r >>= λ lo. integer_at p bytes lo.1 >>= λ hi.
       cond (int_lt hi.0 lo.0) (Err (fault_at EmptyRange (lexeme_at p bytes at).from)) (ends_with lo.0 hi.0 hi.1))
@@ -327,6 +327,6 @@ module _ {X : Type 0} (p : Bool) (bytes : List ℕ) (above : List PlainLine) (fr
   pub range_out : Goal (range_at p bytes at >>= λ r. end_at p bytes r.2 >>= λ _. Ok (value r.0 r.1))
   unfolding range_by
   range_out =
-      subst (λ (r : Result X Fault). Goal r) (sym (range_at-then p bytes at ends_with))
+      subst (λ (r : Read X). Goal r) (sym (range_at-then p bytes at ends_with))
       (first_out (integer_at p bytes at) refl (integer_out p bytes above front at ts some low low_number high low_places
       here are))

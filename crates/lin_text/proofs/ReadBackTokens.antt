@@ -14,20 +14,20 @@ use Rattle.lin_text.specs.Pieces.{Piece, line_end, piece_of, PlainToken, plain_t
 use Rattle.lin_text.specs.Pieces.{pieces}
 
 -- the line has these tokens from the place on
-pub record HasPieces (bytes : List ℕ) (at : ℕ) (ps : List Piece) : Type 0 where
+pub record HasPieces (p : Bool) (bytes : List ℕ) (at : ℕ) (ps : List Piece) : Type 0 where
   pub tokens : List PlainToken
-  pub are : AreTokens false bytes at tokens
+  pub are : AreTokens p bytes at tokens
   pub shown : pieces tokens ≡ ps
 
 -- wherever the text stands, its line has these tokens from there on; behind the line there is what is left
-pub record Reads (text left : List ℕ) (ps : List Piece) : Type 0 where
-  pub read : (bytes : List ℕ) (at : ℕ) → drop at bytes ≡ text → HasPieces bytes at ps
+pub record Reads (p : Bool) (text left : List ℕ) (ps : List Piece) : Type 0 where
+  pub read : (bytes : List ℕ) (at : ℕ) → drop at bytes ≡ text → HasPieces p bytes at ps
   pub long : prefix_len is_in_line text < length text
   pub below : drop (prefix_len is_in_line text + 1) text ≡ left
 
 -- the text begins a line that isn't skipped
-pub record Starts (text left : List ℕ) (ps : List Piece) : Type 0 where
-  pub reads : Reads text left ps
+pub record Starts (p : Bool) (text left : List ℕ) (ps : List Piece) : Type 0 where
+  pub reads : Reads p text left ps
   pub counts : is_skipped text ≡ false
 
 -- a run of bytes that all pass, before one that doesn't
@@ -64,34 +64,34 @@ token_from-blank bytes at bs e f =
     ap (λ (from : ℕ). token_here from (drop from bytes)) place
 
 -- the line ends
-pub Reads-feed : (left : List ℕ) → Reads (10 ∷ left) left (line_end ∷ [])
+pub Reads-feed : (p : Bool) (left : List ℕ) → Reads p (10 ∷ left) left (line_end ∷ [])
 unfolding token_here plain_token piece_of
-Reads-feed left =
+Reads-feed p left =
     record {
       read = λ bytes at e.
           let t : PlainToken = record { from = at; to = at; piece = line_end } in
-          let is : first_token false bytes at ≡ t = ap (plain_token false bytes)
+          let is : first_token p bytes at ≡ t = ap (plain_token p bytes)
           (token_from-here bytes at 10 left e refl) in
           record { tokens = t ∷ []; are = (sym is, refl); shown = refl };
       long = omega arith;
       below = refl;
     }
 
-blank_before : (bytes : List ℕ) (at : ℕ) (ps : List Piece) → token_from bytes (at + 1) ≡ token_from bytes at
-    → (ts : List PlainToken) → AreTokens false bytes (at + 1) ts → AreTokens false bytes at ts
-blank_before bytes at ps same [] are = are
-blank_before bytes at ps same (t ∷ ts) are = (are.0 ∙ ap (plain_token false bytes) same, are.1)
+blank_before : (p : Bool) (bytes : List ℕ) (at : ℕ) (ps : List Piece) → token_from bytes (at + 1) ≡ token_from bytes at
+    → (ts : List PlainToken) → AreTokens p bytes (at + 1) ts → AreTokens p bytes at ts
+blank_before p bytes at ps same [] are = are
+blank_before p bytes at ps same (t ∷ ts) are = (are.0 ∙ ap (plain_token p bytes) same, are.1)
 
 -- a blank is passed over
-pub Reads-blank : (text left : List ℕ) (ps : List Piece) → Reads text left ps → Reads (32 ∷ text) left ps
-Reads-blank text left ps r =
+pub Reads-blank : (p : Bool) (text left : List ℕ) (ps : List Piece) → Reads p text left ps → Reads p (32 ∷ text) left ps
+Reads-blank p text left ps r =
     record {
       read = λ bytes at e.
           let f : drop (at + 1) bytes ≡ text = drop-behind bytes at (32 ∷ []) text e in
           let next = r.read bytes (at + 1) f in
           record {
             tokens = next.tokens;
-            are = blank_before bytes at ps (token_from-blank bytes at text e f) next.tokens next.are;
+            are = blank_before p bytes at ps (token_from-blank bytes at text e f) next.tokens next.are;
             shown = next.shown;
           };
       long = omega (arith, r.long);
@@ -101,7 +101,7 @@ Reads-blank text left ps r =
     }
 
 -- a token stands at the front
-pub record Token-front (b : ℕ) (bs rest : List ℕ) (kind : TokenKind) : Type 0 where
+pub record Token-front (p : Bool) (b : ℕ) (bs rest : List ℕ) (kind : TokenKind) : Type 0 where
   pub no_blank : is_blank b ≡ false
   pub counts : (is_feed b || b == 35) ≡ false
   pub no_feed : is_feed b ≡ false
@@ -112,12 +112,12 @@ pub record Token-front (b : ℕ) (bs rest : List ℕ) (kind : TokenKind) : Type 
     from = at;
     to = at + length (b ∷ bs);
   }
-  pub goes_on : is_last (piece_of false kind (b ∷ bs)) ≡ false
+  pub goes_on : is_last (piece_of p kind (b ∷ bs)) ≡ false
 
-token_here-front : (b : ℕ) (bs rest : List ℕ) (kind : TokenKind) → Token-front b bs rest kind → (at : ℕ)
+token_here-front : (p : Bool) (b : ℕ) (bs rest : List ℕ) (kind : TokenKind) → Token-front p b bs rest kind → (at : ℕ)
     → token_here at (b ∷ (bs ++ rest)) ≡ record { kind = kind; from = at; to = at + length (b ∷ bs) }
 unfolding token_here
-token_here-front b bs rest kind front at =
+token_here-front p b bs rest kind front at =
     ap (λ (x : Bool). cond x (record { kind = LineEnd; from = at; to = at })
     (token_of (kind_of b (token_length (b ∷ (bs ++ rest)))) at (token_length (b ∷ (bs ++ rest))))) front.no_feed
     ∙ (ap (λ (n : ℕ). token_of (kind_of b n) at n) front.long ∙ front.shape at)
@@ -127,18 +127,19 @@ unfolding is_skipped
 counts-front b bs no_blank counts =
     ap (λ (x : Bool). ends_or_comments (drop (cond x (1 + prefix_len is_blank bs) 0) (b ∷ bs))) no_blank ∙ counts
 
-pub Starts-token : (b : ℕ) (bs rest left : List ℕ) (kind : TokenKind) (ps : List Piece) → Token-front b bs rest kind
-    → Reads rest left ps → Starts (b ∷ (bs ++ rest)) left (piece_of false kind (b ∷ bs) ∷ ps)
+pub Starts-token : (p : Bool) (b : ℕ) (bs rest left : List ℕ) (kind : TokenKind) (ps : List Piece)
+    → Token-front p b bs rest kind
+    → Reads p rest left ps → Starts p (b ∷ (bs ++ rest)) left (piece_of p kind (b ∷ bs) ∷ ps)
 unfolding plain_token
-Starts-token b bs rest left kind ps front r =
+Starts-token p b bs rest left kind ps front r =
     record {
       reads = record {
         read = λ bytes at e.
             let n : ℕ = length (b ∷ bs) in
-            let t : PlainToken = record { from = at; to = at + n; piece = piece_of false kind (b ∷ bs) } in
-            let is : first_token false bytes at ≡ t = ap (plain_token false bytes)
-            (token_from-here bytes at b (bs ++ rest) e front.no_blank ∙ token_here-front b bs rest kind front at)
-            ∙ ap (λ (text : List ℕ). record { from = at; to = at + n; piece = piece_of false kind text })
+            let t : PlainToken = record { from = at; to = at + n; piece = piece_of p kind (b ∷ bs) } in
+            let is : first_token p bytes at ≡ t = ap (plain_token p bytes)
+            (token_from-here bytes at b (bs ++ rest) e front.no_blank ∙ token_here-front p b bs rest kind front at)
+            ∙ ap (λ (text : List ℕ). record { from = at; to = at + n; piece = piece_of p kind text })
             (slice_range-front bytes at (b ∷ bs) rest e) in
             let next = r.read bytes (at + n) (drop-behind bytes at (b ∷ bs) rest e) in
             record {
@@ -146,9 +147,9 @@ Starts-token b bs rest left kind ps front r =
               are = (
                 sym is,
                 subst (λ (x : Bool). MatchBool x (next.tokens ≡ [])
-                    (AreTokens false bytes (at + n) next.tokens)) (sym front.goes_on) next.are,
+                    (AreTokens p bytes (at + n) next.tokens)) (sym front.goes_on) next.are,
               );
-              shown = ap (λ (qs : List Piece). piece_of false kind (b ∷ bs) ∷ qs) next.shown;
+              shown = ap (λ (qs : List Piece). piece_of p kind (b ∷ bs) ∷ qs) next.shown;
             };
         long = omega (arith, r.long, front.within, length-append (b ∷ bs) rest);
         below = ap (λ (n : ℕ). drop n (b ∷ (bs ++ rest)))

@@ -2,7 +2,7 @@
 use Rattle.std.proofs.Common.{◌≡◌, ℕ, ◌+◌, ◌-◌, ◌*◌, ◌<◌, ◌≤◌, ◌^◌, Bool, true, false, cond, List, [], ◌∷◌, ◌++◌}
 use Rattle.std.proofs.Common.{length, refl, sym, ap, subst, ◌∙◌, arith, All, IsTrue, decimal, nat_lt, ◌%◌}
 use Rattle.std.proofs.Common.{length-append}
-use Rattle.std.specs.Prelude.{◌||◌, ◌==◌, bytes_eq, codes}
+use Rattle.std.specs.Prelude.{◌||◌, ◌&&◌, ◌==◌, bytes_eq, codes}
 use Rattle.std.specs.List.{prefix_len}
 use Rattle.std.specs.Bool.{Decides}
 use Rattle.std.proofs.lemmas.Slice.Eq.{bytes_eq-Decides}
@@ -14,13 +14,15 @@ use Rattle.std.proofs.lemmas.Bool.Decides.{nat_tests}
 use Rattle.lin_model.specs.Names.{IsName, is_name_start, is_name_byte, is_digit, is_reserved}
 use Rattle.lin_model.specs.declared.atom.Cmp.{Cmp}
 use Rattle.lin_model.specs.declared.atom.Cmp.TheVariants.{Le, Lt, Ge, Gt, Eq, Ne}
+use Rattle.lin_text.specs.declared.class.Sign.{Sign}
+use Rattle.lin_text.specs.declared.class.Sign.TheVariants as signs
 use Rattle.lin_text.specs.Lines.{is_feed, is_in_line, is_blank}
 use Rattle.lin_text.specs.Spelling.{cmp_text}
 use Rattle.lin_text.specs.Tokens.{token_length, kind_of, token_of, symbol_length}
 use Rattle.lin_text.specs.declared.token.TokenKind.{TokenKind}
 use Rattle.lin_text.specs.declared.token.TokenKind.TheVariants.{Name, Number, Symbol, Bad}
 use Rattle.lin_text.specs.Pieces.{Piece, var, word, name, number, plus, minus, times, compare, name_piece, symbol_piece}
-use Rattle.lin_text.specs.Pieces.{piece_of, number_of, is_word, is_last}
+use Rattle.lin_text.specs.Pieces.{cmp_of, piece_of, number_of, is_word, is_claim_word, is_last}
 use Rattle.lin_text.proofs.ReadBackTokens.{Reads, Starts, Starts-token, Token-front, prefix_len-all}
 
 -- no name and no number goes on with this text
@@ -64,11 +66,13 @@ refuted text e false differs = refl
 no_var : (text : List ℕ) → is_reserved text ≡ false → bytes_eq text (codes "var") ≡ false
 no_var text e = refuted text e (bytes_eq text (codes "var")) (bytes_eq-Decides text (codes "var"))
 
-name_is : (text : List ℕ) → is_reserved text ≡ false → name_piece false text ≡ name text
+name_is : (p : Bool) (text : List ℕ) → is_reserved text ≡ false → (p && is_claim_word text) ≡ false
+    → name_piece p text ≡ name text
 unfolding name_piece
-name_is text e =
-    ap (λ (x : Bool). cond x var (cond (is_word false text) (word text) (name text))) (no_var text e)
-    ∙ ap (λ (x : Bool). cond (x || false) (word text) (name text)) e
+name_is p text e free =
+    ap (λ (x : Bool). cond x var (cond (is_word p text) (word text) (name text))) (no_var text e)
+    ∙ ap (λ (x : Bool). cond (x || (p && is_claim_word text)) (word text) (name text)) e
+    ∙ ap (λ (x : Bool). cond x (word text) (name text)) free
 
 short : (n : ℕ) → n ≤ 64 → nat_lt 64 n ≡ false
 short n le = grind (arith, nat_tests)
@@ -78,10 +82,16 @@ name_kind b n e le =
     ap (λ (x : Bool). cond x (cond (nat_lt 64 n) Bad Name) (cond (is_digit b) Number (cond (n == 0) Bad Symbol))) e
     ∙ ap (λ (x : Bool). cond x Bad Name) (short n le)
 
-name-front : (b : ℕ) (bs rest : List ℕ) → IsName (b ∷ bs) → prefix_len is_name_byte rest ≡ 0
-    → Token-front b bs rest Name
+-- a name, and no word in a text of this sort
+pub record IsOwnName (p : Bool) (x : List ℕ) : Type 0 where
+  pub name : IsName x
+  pub free : (p && is_claim_word x) ≡ false
+
+name-front : (p : Bool) (b : ℕ) (bs rest : List ℕ) → IsOwnName p (b ∷ bs) → prefix_len is_name_byte rest ≡ 0
+    → Token-front p b bs rest Name
 unfolding token_length piece_of
-name-front b bs rest is stops =
+name-front p b bs rest own stops =
+    let is = own.name in
     let begins : is_name_start b ≡ true = is.starts in
     let more : prefix_len is_name_byte (bs ++ rest)
     ≡ length bs = omega (
@@ -102,17 +112,17 @@ name-front b bs rest is stops =
           ∙ omega (arith, more);
       shape = λ at. ap (λ (k : TokenKind). token_of k at (length (b ∷ bs)))
           (name_kind b (length (b ∷ bs)) begins is.short);
-      goes_on = ap is_last (name_is (b ∷ bs) is.free);
+      goes_on = ap is_last (name_is p (b ∷ bs) is.free own.free);
     }
 
 -- a name
-pub Starts-name : (x rest left : List ℕ) (ps : List Piece) → IsName x → prefix_len is_name_byte rest ≡ 0
-    → Reads rest left ps → Starts (x ++ rest) left (name x ∷ ps)
+pub Starts-name : (p : Bool) (x rest left : List ℕ) (ps : List Piece) → IsOwnName p x → prefix_len is_name_byte rest ≡ 0
+    → Reads p rest left ps → Starts p (x ++ rest) left (name x ∷ ps)
 unfolding piece_of
-Starts-name [] rest left ps is stops r = absurd (let no : false ≡ true = is.starts in cc)
-Starts-name (b ∷ bs) rest left ps is stops r =
-    subst (λ (q : Piece). Starts (b ∷ (bs ++ rest)) left (q ∷ ps)) (name_is (b ∷ bs) is.free)
-    (Starts-token b bs rest left Name ps (name-front b bs rest is stops) r)
+Starts-name p [] rest left ps own stops r = absurd (let no : false ≡ true = own.name.starts in cc)
+Starts-name p (b ∷ bs) rest left ps own stops r =
+    subst (λ (q : Piece). Starts p (b ∷ (bs ++ rest)) left (q ∷ ps)) (name_is p (b ∷ bs) own.name.free own.free)
+    (Starts-token p b bs rest left Name ps (name-front p b bs rest own stops) r)
 
 number_kind : (b n : ℕ) → is_digit b ≡ true → kind_of b n ≡ Number
 number_kind b n e =
@@ -120,10 +130,11 @@ number_kind b n e =
     (digit-name_start b e)
     ∙ ap (λ (x : Bool). cond x Number (cond (n == 0) Bad Symbol)) e
 
-number-front : (b : ℕ) (bs rest : List ℕ) → All (λ d. IsTrue (is_digit d)) (b ∷ bs) → prefix_len is_digit rest ≡ 0
-    → Token-front b bs rest Number
+number-front : (p : Bool) (b : ℕ) (bs rest : List ℕ) → All (λ d. IsTrue (is_digit d)) (b ∷ bs)
+    → prefix_len is_digit rest ≡ 0
+    → Token-front p b bs rest Number
 unfolding token_length piece_of
-number-front b bs rest digits stops =
+number-front p b bs rest digits stops =
     let begins : is_digit b ≡ true = All-head (λ d. IsTrue (is_digit d)) b bs digits in
     let more : prefix_len is_digit (bs ++ rest)
     ≡ length bs = omega (
@@ -146,23 +157,23 @@ number-front b bs rest digits stops =
       goes_on = refl;
     }
 
-digits_first : (ds rest left : List ℕ) (ps : List Piece) → 0 < length ds → All (λ d. IsTrue (is_digit d)) ds
-    → prefix_len is_digit rest ≡ 0 → Reads rest left ps → Starts (ds ++ rest) left (number (number_of ds) ∷ ps)
+digits_first : (p : Bool) (ds rest left : List ℕ) (ps : List Piece) → 0 < length ds → All (λ d. IsTrue (is_digit d)) ds
+    → prefix_len is_digit rest ≡ 0 → Reads p rest left ps → Starts p (ds ++ rest) left (number (number_of ds) ∷ ps)
 unfolding piece_of
-digits_first [] rest left ps some digits stops r = absurd (omega (arith, some))
-digits_first (b ∷ bs) rest left ps some digits stops r =
-    Starts-token b bs rest left Number ps (number-front b bs rest digits stops) r
+digits_first p [] rest left ps some digits stops r = absurd (omega (arith, some))
+digits_first p (b ∷ bs) rest left ps some digits stops r =
+    Starts-token p b bs rest left Number ps (number-front p b bs rest digits stops) r
 
 -- digits that are this number
-record AreDigits (n : ℕ) (ds : List ℕ) : Type 0 where
-  some : 0 < length ds
-  digits : All (λ d. IsTrue (is_digit d)) ds
-  value : number_of ds ≡ n
+pub record AreDigits (n : ℕ) (ds : List ℕ) : Type 0 where
+  pub some : 0 < length ds
+  pub digits : All (λ d. IsTrue (is_digit d)) ds
+  pub value : number_of ds ≡ n
 
 a_digit : (d : ℕ) → d < 10 → is_digit (48 + d) ≡ true
 a_digit d lt = grind (arith, nat_tests)
 
-AreDigits-decimal : (n : ℕ) → n < 2 ^ 64 → AreDigits n (decimal n)
+pub AreDigits-decimal : (n : ℕ) → n < 2 ^ 64 → AreDigits n (decimal n)
 AreDigits-decimal n small =
     decimal_by_steps AreDigits
     (λ n lt. record {
@@ -180,18 +191,20 @@ AreDigits-decimal n small =
     n small
 
 -- a number
-pub Starts-number : (n : ℕ) (rest left : List ℕ) (ps : List Piece) → n < 2 ^ 64 → prefix_len is_digit rest ≡ 0
-    → Reads rest left ps → Starts (decimal n ++ rest) left (number n ∷ ps)
-Starts-number n rest left ps small stops r =
+pub Starts-number : (p : Bool) (n : ℕ) (rest left : List ℕ) (ps : List Piece) → n < 2 ^ 64
+    → prefix_len is_digit rest ≡ 0
+    → Reads p rest left ps → Starts p (decimal n ++ rest) left (number n ∷ ps)
+Starts-number p n rest left ps small stops r =
     let are = AreDigits-decimal n small in
-    subst (λ (m : ℕ). Starts (decimal n ++ rest) left (number m ∷ ps)) are.value
-    (digits_first (decimal n) rest left ps are.some are.digits stops r)
+    subst (λ (m : ℕ). Starts p (decimal n ++ rest) left (number m ∷ ps)) are.value
+    (digits_first p (decimal n) rest left ps are.some are.digits stops r)
 
 -- the signs
 
-pub Starts-minus : (rest left : List ℕ) (ps : List Piece) → Reads rest left ps → Starts (45 ∷ rest) left (minus ∷ ps)
+pub Starts-minus : (p : Bool) (rest left : List ℕ) (ps : List Piece) → Reads p rest left ps
+    → Starts p (45 ∷ rest) left (minus ∷ ps)
 unfolding piece_of symbol_piece token_length
-Starts-minus rest left ps r = Starts-token 45 [] rest left Symbol ps
+Starts-minus p rest left ps r = Starts-token p 45 [] rest left Symbol ps
     (record {
       no_blank = refl;
       counts = refl;
@@ -202,9 +215,10 @@ Starts-minus rest left ps r = Starts-token 45 [] rest left Symbol ps
       goes_on = refl;
     }) r
 
-pub Starts-plus : (rest left : List ℕ) (ps : List Piece) → Reads rest left ps → Starts (43 ∷ rest) left (plus ∷ ps)
+pub Starts-plus : (p : Bool) (rest left : List ℕ) (ps : List Piece) → Reads p rest left ps
+    → Starts p (43 ∷ rest) left (plus ∷ ps)
 unfolding piece_of symbol_piece token_length
-Starts-plus rest left ps r = Starts-token 43 [] rest left Symbol ps
+Starts-plus p rest left ps r = Starts-token p 43 [] rest left Symbol ps
     (record {
       no_blank = refl;
       counts = refl;
@@ -215,9 +229,10 @@ Starts-plus rest left ps r = Starts-token 43 [] rest left Symbol ps
       goes_on = refl;
     }) r
 
-pub Starts-times : (rest left : List ℕ) (ps : List Piece) → Reads rest left ps → Starts (42 ∷ rest) left (times ∷ ps)
+pub Starts-times : (p : Bool) (rest left : List ℕ) (ps : List Piece) → Reads p rest left ps
+    → Starts p (42 ∷ rest) left (times ∷ ps)
 unfolding piece_of symbol_piece token_length
-Starts-times rest left ps r = Starts-token 42 [] rest left Symbol ps
+Starts-times p rest left ps r = Starts-token p 42 [] rest left Symbol ps
     (record {
       no_blank = refl;
       counts = refl;
@@ -227,12 +242,29 @@ Starts-times rest left ps r = Starts-token 42 [] rest left Symbol ps
       shape = λ at. refl;
       goes_on = refl;
     }) r
+
+-- the sign with which a comparison is written
+abbrev pub plain_sign : Cmp → Sign
+plain_sign Le = signs.Le
+plain_sign Lt = signs.Lt
+plain_sign Ge = signs.Ge
+plain_sign Gt = signs.Gt
+plain_sign Eq = signs.Eq
+plain_sign Ne = signs.Ne
+
+pub plain_sign-means : (cmp : Cmp) → cmp ≡ cmp_of (plain_sign cmp)
+plain_sign-means Le = refl
+plain_sign-means Lt = refl
+plain_sign-means Ge = refl
+plain_sign-means Gt = refl
+plain_sign-means Eq = refl
+plain_sign-means Ne = refl
 
 -- how two sides compare
-pub Starts-compare : (cmp : Cmp) (rest left : List ℕ) (ps : List Piece) → Reads (32 ∷ rest) left ps
-    → Starts (cmp_text cmp ++ 32 ∷ rest) left (compare cmp ∷ ps)
+pub Starts-compare : (p : Bool) (cmp : Cmp) (rest left : List ℕ) (ps : List Piece) → Reads p (32 ∷ rest) left ps
+    → Starts p (cmp_text cmp ++ 32 ∷ rest) left (compare (plain_sign cmp) ∷ ps)
 unfolding piece_of symbol_piece token_length cmp_text
-Starts-compare Le rest left ps r = Starts-token 60 (61 ∷ []) (32 ∷ rest) left Symbol ps
+Starts-compare p Le rest left ps r = Starts-token p 60 (61 ∷ []) (32 ∷ rest) left Symbol ps
     (record {
       no_blank = refl;
       counts = refl;
@@ -242,7 +274,7 @@ Starts-compare Le rest left ps r = Starts-token 60 (61 ∷ []) (32 ∷ rest) lef
       shape = λ at. refl;
       goes_on = refl;
     }) r
-Starts-compare Lt rest left ps r = Starts-token 60 [] (32 ∷ rest) left Symbol ps
+Starts-compare p Lt rest left ps r = Starts-token p 60 [] (32 ∷ rest) left Symbol ps
     (record {
       no_blank = refl;
       counts = refl;
@@ -252,7 +284,7 @@ Starts-compare Lt rest left ps r = Starts-token 60 [] (32 ∷ rest) left Symbol 
       shape = λ at. refl;
       goes_on = refl;
     }) r
-Starts-compare Ge rest left ps r = Starts-token 62 (61 ∷ []) (32 ∷ rest) left Symbol ps
+Starts-compare p Ge rest left ps r = Starts-token p 62 (61 ∷ []) (32 ∷ rest) left Symbol ps
     (record {
       no_blank = refl;
       counts = refl;
@@ -262,7 +294,7 @@ Starts-compare Ge rest left ps r = Starts-token 62 (61 ∷ []) (32 ∷ rest) lef
       shape = λ at. refl;
       goes_on = refl;
     }) r
-Starts-compare Gt rest left ps r = Starts-token 62 [] (32 ∷ rest) left Symbol ps
+Starts-compare p Gt rest left ps r = Starts-token p 62 [] (32 ∷ rest) left Symbol ps
     (record {
       no_blank = refl;
       counts = refl;
@@ -272,7 +304,7 @@ Starts-compare Gt rest left ps r = Starts-token 62 [] (32 ∷ rest) left Symbol 
       shape = λ at. refl;
       goes_on = refl;
     }) r
-Starts-compare Eq rest left ps r = Starts-token 61 [] (32 ∷ rest) left Symbol ps
+Starts-compare p Eq rest left ps r = Starts-token p 61 [] (32 ∷ rest) left Symbol ps
     (record {
       no_blank = refl;
       counts = refl;
@@ -282,7 +314,7 @@ Starts-compare Eq rest left ps r = Starts-token 61 [] (32 ∷ rest) left Symbol 
       shape = λ at. refl;
       goes_on = refl;
     }) r
-Starts-compare Ne rest left ps r = Starts-token 33 (61 ∷ []) (32 ∷ rest) left Symbol ps
+Starts-compare p Ne rest left ps r = Starts-token p 33 (61 ∷ []) (32 ∷ rest) left Symbol ps
     (record {
       no_blank = refl;
       counts = refl;
@@ -294,10 +326,10 @@ Starts-compare Ne rest left ps r = Starts-token 33 (61 ∷ []) (32 ∷ rest) lef
     }) r
 
 -- what begins a declaration
-pub Starts-var : (rest left : List ℕ) (ps : List Piece) → Reads (32 ∷ rest) left ps
-    → Starts (codes "var " ++ rest) left (var ∷ ps)
+pub Starts-var : (p : Bool) (rest left : List ℕ) (ps : List Piece) → Reads p (32 ∷ rest) left ps
+    → Starts p (codes "var " ++ rest) left (var ∷ ps)
 unfolding piece_of name_piece token_length
-Starts-var rest left ps r = Starts-token 118 (97 ∷ 114 ∷ []) (32 ∷ rest) left Name ps
+Starts-var p rest left ps r = Starts-token p 118 (97 ∷ 114 ∷ []) (32 ∷ rest) left Name ps
     (record {
       no_blank = refl;
       counts = refl;

@@ -4,8 +4,8 @@ use Rattle.std.proofs.Common.{subst, ◌∙◌, append_assoc, arith}
 use Rattle.std.specs.Prelude.{flat_map, option_and_then}
 use Rattle.std.proofs.lemmas.List.{append-nil, length_push}
 use Rattle.std.proofs.lemmas.Grind.{flat_map-append}
-use Rattle.lin_model.specs.declared.atom.Cmp.{Cmp}
-use Rattle.lin_model.specs.declared.atom.Cmp.TheVariants.{Le}
+use Rattle.lin_text.specs.declared.class.Sign.{Sign}
+use Rattle.lin_text.specs.declared.class.Sign.TheVariants.{Le}
 use Rattle.lin_text.specs.Pieces.{Piece, var, name, number, plus, minus, times, compare, line_end}
 use Rattle.lin_text.specs.Grammar.{Integer, constant, multiple, single, Item, Joined, Side, Line, declaration}
 use Rattle.lin_text.specs.Grammar.{comparison, sign, integer_pieces, item_pieces, joint, joined_pieces, side_pieces}
@@ -16,7 +16,7 @@ use Rattle.lin_text.proofs.Places.{after, factor, done, next, run, size_next, it
 -- a side begins behind these tokens
 abbrev pub SideFront : Bool → List Piece → Type 0
 SideFront true b = b ≡ []
-SideFront false b = (left : Side) × (c : Cmp) × (b ≡ side_pieces left ++ compare c ∷ [])
+SideFront false b = (left : Side) × (c : Sign) × (b ≡ side_pieces left ++ compare c ∷ [])
 
 -- an item begins behind these tokens, and so many items stand before it in its side
 abbrev pub ItemFront : Bool → ℕ → List Piece → Type 0
@@ -92,7 +92,7 @@ with_joint l n m f ps i sub counts front is =
     (w.0, w.1, sub, w.2, w.3, ap (λ (qs : List Piece). qs ++ joint sub ∷ []) (is ∙ w.4))
 
 -- a comparison behind the left side
-with_compare : (n m : ℕ) (f ps : List Piece) (i : Item) (c : Cmp) → ItemFront true m f → ps ≡ f ++ item_pieces i
+with_compare : (n m : ℕ) (f ps : List Piece) (i : Item) (c : Sign) → ItemFront true m f → ps ≡ f ++ item_pieces i
     → SideFront false (ps ++ compare c ∷ [])
 with_compare n m f ps i c front is =
     let w = with_item true m f i front in (

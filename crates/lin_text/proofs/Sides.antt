@@ -1,19 +1,19 @@
 -- The sides of a comparison, token by token.
 use Rattle.std.proofs.Common.{◌≡◌, ℕ, ◌+◌, ◌<◌, ◌≤◌, zero, suc, Bool, true, false, cond, List, [], ◌∷◌, ◌++◌, length}
 use Rattle.std.proofs.Common.{Some, None, refl, sym, ap, subst, ◌∙◌, arith, inl, inr, lit≤}
-use Rattle.std.specs.Prelude.{Result, Ok, flat_map}
+use Rattle.std.specs.Prelude.{Ok, flat_map}
 use Rattle.lin_model.specs.Terms.{PlainTerm}
 use Rattle.lin_text.specs.declared.fault.TextKind.{TextKind}
 use Rattle.lin_text.specs.declared.fault.TextKind.TheVariants as kinds
-use Rattle.lin_text.specs.declared.refusal.Fault.{Fault}
 use Rattle.lin_text.specs.declared.class.Lexeme.{Lexeme}
 use Rattle.lin_text.specs.Pieces.{Piece, name, number, plus, minus, PlainToken, PlainLine, pieces, AreTokens, is_last}
 use Rattle.lin_text.specs.Classes.{class_of, shown}
 use Rattle.lin_text.specs.Grammar.{Quantity, constant, multiple, single, sign, quantity_pieces, Item, Joined, Side}
-use Rattle.lin_text.specs.Grammar.{item_pieces, joint, joined_pieces, side_pieces, AreTerms, IsExpr}
-use Rattle.lin_text.specs.Faults.{begins_item, declared_names, EndsBeforeSide, EndsInFullSide, Stands, rank}
-use Rattle.lin_text.specs.Reading.{lexeme_at, fault_at, refusal, full_at, begins_item_class, is_joint, is_minus}
-use Rattle.lin_text.specs.Reading.{is_times, item_at, items_at, side_at, ◌>>=◌}
+use Rattle.lin_text.specs.Grammar.{item_pieces, joint, joined_pieces, side_pieces, AreTerms, IsExpr, Naming}
+use Rattle.lin_text.specs.Faults.{begins_item, EndsBeforeSide, EndsInFullSide, Stands, known}
+use Rattle.lin_text.specs.Kinds.{rank}
+use Rattle.lin_text.specs.Reading.{Read, lexeme_at, fault_at, refusal, full_at, begins_item_class, is_joint, is_minus}
+use Rattle.lin_text.specs.Reading.{is_times, item_from, items_from, side_from, ◌>>=◌}
 use Rattle.lin_text.proofs.Places.{Place, item, after, size, next}
 use Rattle.lin_text.proofs.Shapes.{SideFront, ItemFront}
 use Rattle.lin_text.proofs.Passing.{At, At-next, IsRoom, sign_passed}
@@ -70,17 +70,15 @@ module _ (p : Bool) (bytes : List ℕ) (above : List PlainLine) (front : List Pi
       (record { stands = (full_side l front here.shape, e); least = full_rank })
   full_by false e = refuse p bytes above front at ts t room (item l 64) here (no_item l 64 t.token.piece e)
 
-  pub full_out : Fails above front ts (full_at (lexeme_at p bytes at))
+  pub full_out : Fails above front ts (full_at (shown t.token))
   unfolding full_at
   full_out =
-      subst (λ (x : Lexeme). Fails above front ts
-      (cond (begins_item_class x.class) (fault_at kinds.TooManyTerms x.from) (refusal x))) (sym t.shows)
       (subst (λ (b : Bool). Fails above front ts
       (cond b (fault_at kinds.TooManyTerms t.token.from) (refusal (shown t.token))))
       (sym (begins_item-class t.token.piece)) (full_by (begins_item t.token.piece) refl))
 
 -- the terms from an item on to the end of the side; k items stand before them, and at most n may come
-abbrev pub IsSideAt : Bool → List ℕ → List (List ℕ) → Bool → Bool → ℕ → ℕ → List PlainTerm → ℕ → List Piece → Place
+abbrev pub IsSideAt : Bool → List ℕ → Naming → Bool → Bool → ℕ → ℕ → List PlainTerm → ℕ → List Piece → Place
     → Type 0
 IsSideAt p bytes names subtracted l k n terms to ps s =
     (i : Item) × (js : List Joined) × (bare : Bool) × (ps ≡ item_pieces i ++ flat_map joined_pieces js)
@@ -121,11 +119,11 @@ item_pieces-some false (single x) e = cc
 -- behind an item: the side ends, or another item follows
 module _ (p : Bool) (bytes : List ℕ) (above : List PlainLine) (front : List Piece) (at : ℕ) (ts : List PlainToken)
     (l : Bool) (k n : ℕ) (subtracted : Bool) (term : PlainTerm) (to : ℕ) (ps : List Piece) (s : Place)
-    (m : IsItemAt p bytes (declared_names above) subtracted l k term to ps s) (place : At false (front ++ ps) s)
+    (m : IsItemAt p bytes (known above) subtracted l k term to ps s) (place : At false (front ++ ps) s)
     (rest : List PlainToken) (are : AreTokens p bytes to rest) (t : Token p bytes to rest) where
-  abbrev pub Goal : Result (List PlainTerm × ℕ) Fault → Type 0
+  abbrev pub Goal : Read (List PlainTerm × ℕ) → Type 0
   Goal r = Outcome p bytes above false (front ++ ps) rest
-      (λ b to' qs u. IsSideAt p bytes (declared_names above) subtracted l k (suc n) b to' (ps ++ qs) u) r
+      (λ b to' qs u. IsSideAt p bytes (known above) subtracted l k (suc n) b to' (ps ++ qs) u) r
 
   pub last_out : is_joint (class_of t.token.piece) ≡ false → Goal (Ok (term ∷ [], to))
   last_out none =
@@ -149,8 +147,8 @@ module _ (p : Bool) (bytes : List ℕ) (above : List PlainLine) (front : List Pi
       )
 
   more_means : (q : Piece) (b : List PlainTerm) (to' : ℕ) (qs : List Piece) (u : Place) → is_joint (class_of q) ≡ true
-      → IsSideAt p bytes (declared_names above) (is_minus (class_of q)) l (suc k) n b to' qs u
-      → IsSideAt p bytes (declared_names above) subtracted l k (suc n) (term ∷ b) to' (ps ++ ((q ∷ []) ++ qs)) u
+      → IsSideAt p bytes (known above) (is_minus (class_of q)) l (suc k) n b to' qs u
+      → IsSideAt p bytes (known above) subtracted l k (suc n) (term ∷ b) to' (ps ++ ((q ∷ []) ++ qs)) u
   more_means q b to' qs u some r =
       let j : Joined = record { subtracted = is_minus (class_of q); item = r.0 } in (
         m.0,
@@ -171,9 +169,10 @@ module _ (p : Bool) (bytes : List ℕ) (above : List PlainLine) (front : List Pi
       → ((front' : List Piece) (at' : ℕ) (ts' : List PlainToken) → At false front' (item l (suc k))
       → (t' : Token p bytes at' ts') → IsRoom above front' t'.token.piece
       → Outcome p bytes above false front' ts'
-      (IsSideAt p bytes (declared_names above) (is_minus (class_of t.token.piece)) l (suc k) n)
-      (items_at n p bytes (declared_names above) (is_minus (class_of t.token.piece)) at'))
-      → Goal (items_at n p bytes (declared_names above) (is_minus (class_of t.token.piece)) t.token.to >>= λ later.
+      (IsSideAt p bytes (known above) (is_minus (class_of t.token.piece)) l (suc k) n)
+      (items_from n p bytes (known above) (is_minus (class_of t.token.piece)) (shown t'.token)))
+      → Goal (items_from n p bytes (known above) (is_minus (class_of t.token.piece))
+      (lexeme_at p bytes t.token.to) >>= λ later.
       Ok (term ∷ later.0, later.1))
   more_out some later =
       let here : At false (front ++ ps) (after l (suc k) m.1) = subst
@@ -188,15 +187,18 @@ module _ (p : Bool) (bytes : List ℕ) (above : List PlainLine) (front : List Pi
       facts.0 in
       let next_token = token_of p bytes t.token.to first.rest first.there in
       Outcome-after p bytes above false (front ++ ps) to rest
-      (λ b to' qs u. IsSideAt p bytes (declared_names above) subtracted l k (suc n) b to' (ps ++ qs) u) t.token.to
+      (λ b to' qs u. IsSideAt p bytes (known above) subtracted l k (suc n) b to' (ps ++ qs) u) t.token.to
       (item l (suc k)) (t.token.piece ∷ []) _ first
       (Outcome-map p bytes above false ((front ++ ps) ++ t.token.piece ∷ []) first.rest
-      (IsSideAt p bytes (declared_names above) (is_minus (class_of t.token.piece)) l (suc k) n)
-      (λ b to' qs u. IsSideAt p bytes (declared_names above) subtracted l k (suc n) b to'
+      (IsSideAt p bytes (known above) (is_minus (class_of t.token.piece)) l (suc k) n)
+      (λ b to' qs u. IsSideAt p bytes (known above) subtracted l k (suc n) b to'
       (ps ++ ((t.token.piece ∷ []) ++ qs)) u) (λ (b : List PlainTerm). term ∷ b) _
       (λ b to' qs u r. more_means t.token.piece b to' qs u some r)
+      (subst (λ (x : Lexeme). Outcome p bytes above false ((front ++ ps) ++ t.token.piece ∷ []) first.rest
+      (IsSideAt p bytes (known above) (is_minus (class_of t.token.piece)) l (suc k) n)
+      (items_from n p bytes (known above) (is_minus (class_of t.token.piece)) x)) (sym next_token.shows)
       (later ((front ++ ps) ++ t.token.piece ∷ []) t.token.to first.rest first.place next_token
-      (later_room above (front ++ ps) t.token.piece next_token.token.piece)))
+      (later_room above (front ++ ps) t.token.piece next_token.token.piece))))
     where
       item-some : (i : Item) (xs : List Piece) → xs ≡ item_pieces i → front ++ xs ≡ [] → ⊥
       item-some i xs e f = item_pieces-some i.negative i.quantity (sym e ∙ right-nil front xs f)
@@ -207,28 +209,29 @@ module _ (p : Bool) (bytes : List ℕ) (above : List PlainLine) (front : List Pi
 pub items_out : (n k : ℕ) (p : Bool) (bytes : List ℕ) (above : List PlainLine) (front : List Piece) (at : ℕ)
     (ts : List PlainToken) (l : Bool) (subtracted : Bool) → n + k ≡ 64 → At false front (item l k)
     → (t : Token p bytes at ts) → IsRoom above front t.token.piece
-    → Outcome p bytes above false front ts (IsSideAt p bytes (declared_names above) subtracted l k n)
-    (items_at n p bytes (declared_names above) subtracted at)
-unfolding items_at
+    → Outcome p bytes above false front ts (IsSideAt p bytes (known above) subtracted l k n)
+    (items_from n p bytes (known above) subtracted (shown t.token))
+unfolding items_from
 items_out zero k p bytes above front at ts l subtracted sum here t room =
     let full : k ≡ 64 = omega (arith, sum) in
     full_out p bytes above front at ts l (subst (λ (j : ℕ). At false front (item l j)) full here) t room
 items_out (suc n) k p bytes above front at ts l subtracted sum here t room =
-    Outcome-then p bytes above false front at ts (IsItemAt p bytes (declared_names above) subtracted l k)
-    (IsSideAt p bytes (declared_names above) subtracted l k (suc n))
-    (item_at p bytes (declared_names above) subtracted at) _
+    Outcome-then p bytes above false front at ts (IsItemAt p bytes (known above) subtracted l k)
+    (IsSideAt p bytes (known above) subtracted l k (suc n))
+    (item_from p bytes (known above) subtracted (shown t.token)) _
     (item_out p bytes above front at ts l k (omega (arith, sum)) here subtracted t room)
     (λ term to ps s m place rest are.
     let next_token = token_of p bytes to rest are in
     subst (λ (x : Lexeme). Outcome p bytes above false (front ++ ps) rest
-    (λ b to' qs u. IsSideAt p bytes (declared_names above) subtracted l k (suc n) b to' (ps ++ qs) u)
-    (cond (is_joint x.class) (items_at n p bytes (declared_names above) (is_minus x.class) x.to >>= λ later.
+    (λ b to' qs u. IsSideAt p bytes (known above) subtracted l k (suc n) b to' (ps ++ qs) u)
+    (cond (is_joint x.class) (items_from n p bytes (known above) (is_minus x.class)
+    (lexeme_at p bytes x.to) >>= λ later.
     Ok (term ∷ later.0, later.1)) (Ok (term ∷ [], to)))) (sym next_token.shows)
     (elim (is_joint (class_of next_token.token.piece)) as (λ b. is_joint (class_of next_token.token.piece) ≡ b
     → Outcome p bytes above false (front ++ ps) rest
-    (λ b' to' qs u. IsSideAt p bytes (declared_names above) subtracted l k (suc n) b' to' (ps ++ qs) u)
-    (cond b (items_at n p bytes (declared_names above)
-    (is_minus (class_of next_token.token.piece)) next_token.token.to >>= λ later. Ok (term ∷ later.0, later.1))
+    (λ b' to' qs u. IsSideAt p bytes (known above) subtracted l k (suc n) b' to' (ps ++ qs) u)
+    (cond b (items_from n p bytes (known above) (is_minus (class_of next_token.token.piece))
+    (lexeme_at p bytes next_token.token.to) >>= λ later. Ok (term ∷ later.0, later.1))
     (Ok (term ∷ [], to)))) [
       | true ↦ λ some. more_out p bytes above front at ts l k n subtracted term to ps s m place rest are next_token some
           (λ front' at' ts' here' t' room'. items_out n (suc k) p bytes above front' at' ts' l
@@ -238,13 +241,13 @@ items_out (suc n) k p bytes above front at ts l subtracted sum here t room =
     ] refl))
 
 -- a side, with what may follow it
-abbrev pub IsWholeSide : Bool → List ℕ → List (List ℕ) → Bool → List PlainTerm → ℕ → List Piece → Place → Type 0
+abbrev pub IsWholeSide : Bool → List ℕ → Naming → Bool → List PlainTerm → ℕ → List Piece → Place → Type 0
 IsWholeSide p bytes names l terms to ps s =
     (side : Side) × (k : ℕ) × (bare : Bool) × (ps ≡ side_pieces side) × IsExpr names side terms × (s ≡ after l k bare)
     × (bare ≡ true → is_times (lexeme_at p bytes to).class ≡ false)
     × (is_joint (lexeme_at p bytes to).class ≡ false)
 
-length-AreTerms : (names : List (List ℕ)) (js : List Joined) (terms : List PlainTerm) → AreTerms names js terms
+length-AreTerms : (names : Naming) (js : List Joined) (terms : List PlainTerm) → AreTerms names js terms
     → length terms ≡ length js
 length-AreTerms names [] terms e = ap length e
 length-AreTerms names (j ∷ js) [] h = absurd h
@@ -252,14 +255,14 @@ length-AreTerms names (j ∷ js) (term ∷ terms) h = ap suc (length-AreTerms na
 
 pub side_out : (p : Bool) (bytes : List ℕ) (above : List PlainLine) (front : List Piece) (at : ℕ) (ts : List PlainToken)
     (l : Bool) → At false front (item l 0) → (t : Token p bytes at ts) → IsRoom above front t.token.piece
-    → Outcome p bytes above false front ts (IsWholeSide p bytes (declared_names above) l)
-    (side_at p bytes (declared_names above) at)
-unfolding side_at side_pieces
+    → Outcome p bytes above false front ts (IsWholeSide p bytes (known above) l)
+    (side_from p bytes (known above) (shown t.token))
+unfolding side_from side_pieces
 side_out p bytes above front at ts l here t room =
-    Outcome-weaker p bytes above false front ts (IsSideAt p bytes (declared_names above) false l 0 64)
-    (IsWholeSide p bytes (declared_names above) l) (items_at 64 p bytes (declared_names above) false at)
+    Outcome-weaker p bytes above false front ts (IsSideAt p bytes (known above) false l 0 64)
+    (IsWholeSide p bytes (known above) l) (items_from 64 p bytes (known above) false (shown t.token))
     (λ terms to ps s m.
-    let count : length terms ≡ suc (length m.1) = length-AreTerms (declared_names above)
+    let count : length terms ≡ suc (length m.1) = length-AreTerms (known above)
     (record { subtracted = false; item = m.0 } ∷ m.1) terms m.4 in (
       record { first = m.0; later = m.1 },
       suc 0 + length m.1,

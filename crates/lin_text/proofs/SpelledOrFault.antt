@@ -1,7 +1,7 @@
 -- Each text spells a condition or has a fault.
 use Rattle.std.proofs.Common.{◌≡◌, ℕ, ◌+◌, ◌-◌, ◌<◌, ◌≤◌, zero, suc, Bool, true, false, cond, nat_lt, List, [], ◌∷◌}
 use Rattle.std.proofs.Common.{◌++◌, length, drop, refl, sym, ap, subst, ◌∙◌, append_assoc, arith, inl, inr, ◌⊎◌}
-use Rattle.std.specs.Prelude.{Result, Ok, Err, count_by}
+use Rattle.std.specs.Prelude.{Ok, Err, count_by}
 use Rattle.std.proofs.lemmas.Bool.{false≢true}
 use Rattle.std.proofs.lemmas.Bool.Decides.{eqb_tells}
 use Rattle.std.proofs.lemmas.List.{append-nil, length-drop}
@@ -9,14 +9,13 @@ use borrow.Author.Tests.{ltb-true, ltb-false}
 use Rattle.lin_model.specs.Conditions.{PlainCondition, Fits}
 use Rattle.lin_text.specs.declared.fault.TextKind.{TextKind}
 use Rattle.lin_text.specs.declared.fault.TextKind.TheVariants as kinds
-use Rattle.lin_text.specs.declared.refusal.Fault.{Fault}
 use Rattle.lin_text.specs.declared.refusal.ReadError.TheVariants as errors
 use Rattle.lin_text.specs.Faults.{begins_variable, begins_comparison}
 use Rattle.lin_text.specs.Laws.{SpelledOrFaulty}
 use Rattle.lin_text.specs.Lines.{line_from, line_below}
 use Rattle.lin_text.specs.Pieces.{Piece, var, PlainToken, PlainLine, pieces}
 use Rattle.lin_text.specs.Queries.{Spells, HasFault}
-use Rattle.lin_text.specs.Reading.{lexeme_at, is_word_class, line_at}
+use Rattle.lin_text.specs.Reading.{Read, lexeme_at, is_word_class, line_at}
 use Rattle.lin_text.specs.Facts.{first_line-bounds}
 use Rattle.lin_text.proofs.QueryLines.{IsClean}
 use Rattle.lin_text.proofs.LinesRead.{AreClean, count-push, ReadTo, read_none}
@@ -99,8 +98,8 @@ Outcome p bytes from = ((q : PlainCondition) × (end : ℕ) × Spells p bytes fr
 -- at a line: it ends the query, or is read, or has the first fault
 at_one : (p : Bool) (bytes : List ℕ) (from at : ℕ) (q : PlainCondition) → ReadTo p bytes from at q → at < length bytes
     → ((r : PlainCondition) → ReadTo p bytes from (line_from bytes (line_below bytes at)) r → Outcome p bytes from)
-    → (w : Bool) → is_word_class (lexeme_at p bytes at).class ≡ w → (read : Result PlainCondition Fault)
-    → line_at p bytes q (lexeme_at p bytes at) at ≡ read → Outcome p bytes from
+    → (w : Bool) → is_word_class (lexeme_at p bytes at).class ≡ w → (read : Read PlainCondition)
+    → line_at p bytes q (lexeme_at p bytes at) ≡ read → Outcome p bytes from
 at_one p bytes from at q got lt go true word read e =
     inl (q, at, at_word p bytes from at q got lt (lexeme_at p bytes at) refl word (fits p bytes from at q got))
 at_one p bytes from at q got lt go false no_word (Ok r) e =
@@ -125,7 +124,7 @@ read_on (suc n) p bytes from at q got le less =
           at_one p bytes from at q got lt (λ r more.
           read_on n p bytes from (line_from bytes below) r more (omega (arith, bounds.1, length-drop below bytes))
           (omega (arith, bounds.0))) (is_word_class (lexeme_at p bytes at).class) refl
-          (line_at p bytes q (lexeme_at p bytes at) at) refl
+          (line_at p bytes q (lexeme_at p bytes at)) refl
       | false ↦ λ e. inl (
         q,
         at,

@@ -1,7 +1,7 @@
 -- The tokens of a line are those of one line alone.
 use Rattle.std.proofs.Common.{◌≡◌, ℕ, Bool, true, false, List, [], ◌∷◌, ◌++◌, sym, refl, ap, ◌∙◌, append_assoc}
 use Rattle.std.specs.Prelude.{flat_map}
-use Rattle.lin_model.specs.declared.atom.Cmp.{Cmp}
+use Rattle.lin_text.specs.declared.class.Sign.{Sign}
 use Rattle.lin_text.specs.Pieces.{Piece, var, word, name, number, plus, minus, times, compare, bad, line_end}
 use Rattle.lin_text.specs.Grammar.{Integer, Quantity, constant, multiple, single, Item, Joined, Side, declaration}
 use Rattle.lin_text.specs.Grammar.{comparison, sign, integer_pieces, quantity_pieces, item_pieces, joint, joined_pieces}
@@ -184,7 +184,7 @@ end = line_end ∷ []
 pub names-once : (x y : List ℕ) (ps qs : List Piece) → var ∷ name x ∷ ps ≡ var ∷ name y ∷ qs → (x ≡ y) × (ps ≡ qs)
 names-once x y ps qs e = (cc, cc)
 
-compare-once : (c d : Cmp) (ps qs : List Piece) → compare c ∷ ps ≡ compare d ∷ qs → (c ≡ d) × (ps ≡ qs)
+pub compare-once : (c d : Sign) (ps qs : List Piece) → compare c ∷ ps ≡ compare d ∷ qs → (c ≡ d) × (ps ≡ qs)
 compare-once c d ps qs e = (cc, cc)
 
 -- what the tokens of a declaration show
@@ -199,7 +199,7 @@ declaration-once x y lo hi low high e =
     (names.0, first.0, second.0)
 
 -- what the tokens of a comparison show
-pub comparison-once : (left right a b : Side) (cmp c : Cmp)
+pub comparison-once : (left right a b : Side) (cmp c : Sign)
     → line_pieces (comparison left cmp right) ≡ line_pieces (comparison a c b) → (left ≡ a) × (cmp ≡ c) × (right ≡ b)
 unfolding ends_side
 comparison-once left right a b cmp c e =
@@ -212,7 +212,7 @@ comparison-once left right a b cmp c e =
     (first.0, behind.0, second.0)
 
 -- the tokens of a declaration are those of no comparison
-pub declares_or_compares : (x : List ℕ) (lo hi : Integer) (left right : Side) (cmp : Cmp)
+pub declares_or_compares : (x : List ℕ) (lo hi : Integer) (left right : Side) (cmp : Sign)
     → line_pieces (declaration x lo hi) ≡ line_pieces (comparison left cmp right) → ⊥
 declares_or_compares x lo hi left right cmp e =
     let t : true ≡ false = ap begins_variable e

@@ -2,17 +2,16 @@
 use Rattle.std.proofs.Common.{◌≡◌, ℕ, ◌≤◌, Bool, true, false, cond, List, [], ◌∷◌, ◌++◌}
 use Rattle.std.proofs.Common.{length, Option, Some, None, refl, sym, ap, subst, ◌∙◌, arith, ◌⊎◌, ℤ}
 use Rattle.std.proofs.Common.{◌≤ℤ◌, inl, inr, position}
-use Rattle.std.specs.Prelude.{Result, Ok, Err, Contains, is_some, slice_range, bytes_eq}
+use Rattle.std.specs.Prelude.{Ok, Err, Contains, is_some, slice_range, bytes_eq}
 use Rattle.std.proofs.lemmas.List.{append-nil, map-append, length-map}
 use Rattle.lin_model.specs.Names.{IsName}
 use Rattle.lin_text.specs.declared.fault.TextKind.TheVariants.{NameTwice}
-use Rattle.lin_text.specs.declared.refusal.Fault.{Fault}
 use Rattle.lin_text.specs.declared.class.Lexeme.{Lexeme}
 use Rattle.lin_text.specs.Pieces.{Piece, var, name, number, PlainToken, PlainLine, pieces, AreTokens}
 use Rattle.lin_text.specs.Pieces.{is_last}
 use Rattle.lin_text.specs.Classes.{class_of, shown}
 use Rattle.lin_text.specs.Faults.{declared_names, IsEmptyRange}
-use Rattle.lin_text.specs.Reading.{fault_at, refusal, is_name_class, number_in}
+use Rattle.lin_text.specs.Reading.{Read, fault_at, refusal, is_name_class, number_in}
 use Rattle.lin_text.specs.Reading.{free_name_at, range_at, end_at, declaration_at}
 use Rattle.lin_text.specs.Reading.{◌>>=◌}
 use Rattle.lin_text.proofs.Places.{Place, var_name, low, next}
@@ -30,7 +29,7 @@ IsFreeName bytes names from to ps s = (x : List ℕ) × (ps ≡ name x ∷ []) �
     × (Contains names x → ⊥) × (s ≡ low) × IsName (slice_range bytes from to)
 
 -- the name is read, or the fault is at the first token
-abbrev pub FreeNameOut : Bool → List ℕ → List PlainLine → List PlainToken → Result (ℕ × ℕ) Fault → Type 0
+abbrev pub FreeNameOut : Bool → List ℕ → List PlainLine → List PlainToken → Read (ℕ × ℕ) → Type 0
 FreeNameOut p bytes above ts (Ok x) = (ps : List Piece) × (s : Place)
     × IsFreeName bytes (declared_names above) x.0 x.1 ps s × Gets p bytes above true (var ∷ []) ts x.1 s ps
 FreeNameOut p bytes above ts (Err f) = (g : Fails above (var ∷ []) ts f) × (g.used ≡ [])
@@ -115,7 +114,7 @@ abbrev pub HasNoEmptyRange : List Piece → Type 0
 HasNoEmptyRange ps = (x : List ℕ) (qs : List Piece) → ps ≡ name x ∷ qs → IsEmptyRange qs → ⊥
 
 -- a declaration behind the word `var`: what it means, or its first fault
-abbrev pub DeclarationOut : List ℕ → List PlainLine → List PlainToken → Result (ℕ × ℕ × ℤ × ℤ) Fault → Type 0
+abbrev pub DeclarationOut : List ℕ → List PlainLine → List PlainToken → Read (ℕ × ℕ × ℤ × ℤ) → Type 0
 DeclarationOut bytes above ts (Ok d) = IsDeclared bytes (declared_names above) d (pieces ts)
     × Passes above (var ∷ []) (pieces ts) [] × HasNoEmptyRange (pieces ts)
 DeclarationOut bytes above ts (Err f) =
@@ -125,7 +124,7 @@ tail_is : (x y : List ℕ) (ps qs rs : List Piece) → ps ≡ name x ∷ qs → 
 tail_is x y ps qs rs e f = cc
 
 declaration_rest : (p : Bool) (bytes : List ℕ) (above : List PlainLine) (at : ℕ) (ts : List PlainToken) (d : ℕ × ℕ)
-    (o : FreeNameOut p bytes above ts (Ok d)) (r : Result (ℕ × ℕ × ℤ × ℤ) Fault)
+    (o : FreeNameOut p bytes above ts (Ok d)) (r : Read (ℕ × ℕ × ℤ × ℤ))
     → RangeOut above ((var ∷ []) ++ o.0) o.3.rest (λ lo hi y. y ≡ (d.0, d.1, lo, hi)) r
     → DeclarationOut bytes above ts r
 declaration_rest p bytes above at ts d o (Ok y) h =
@@ -168,7 +167,7 @@ declaration_rest p bytes above at ts d o (Err f) h =
     )
 
 declaration_by : (p : Bool) (bytes : List ℕ) (above : List PlainLine) (at : ℕ) (ts : List PlainToken)
-    (r : Result (ℕ × ℕ) Fault) → FreeNameOut p bytes above ts r
+    (r : Read (ℕ × ℕ)) → FreeNameOut p bytes above ts r
     → DeclarationOut bytes above ts (r >>= λ name. range_at p bytes name.1 >>= λ range. end_at p bytes range.2 >>= λ _.
     Ok (name.0, name.1, range.0, range.1))
 declaration_by p bytes above at ts (Err f) o = (o.0, inr (let nil : length o.0.used ≡ 0 = ap length o.1 in omega arith))

@@ -1,18 +1,20 @@
 -- The faults of a query's text: for each kind at which tokens it stands, and which one is answered.
 use Rattle.std.specs.Prelude.{◌≡◌, ℕ, ◌<◌, ◌≤◌, Bool, true, false, ◌⊎◌, List, [], ◌∷◌, ◌++◌, flat_map, count_by}
 use Rattle.std.specs.Prelude.{Contains, IsTrue, IsFalse, MatchBool, ◌<ℤ◌}
-use Rattle.lin_model.specs.declared.atom.Cmp.{Cmp}
 use Rattle.lin_model.specs.declared.condition.TheConstants.{MAX_VARS, MAX_ATOMS}
 use Rattle.lin_model.specs.declared.term.TheConstants.{MAX_FACTOR, MAX_CONSTANT, MAX_TERMS}
 use Rattle.lin_model.specs.declared.var.TheConstants.{MAX_BOUND}
+use Rattle.lin_text.specs.declared.class.Sign.{Sign}
 use Rattle.lin_text.specs.declared.fault.TextKind.{TextKind}
 use Rattle.lin_text.specs.declared.fault.TextKind.TheVariants.{Token, Syntax, NumberTooLarge, UnknownName, NameTwice}
 use Rattle.lin_text.specs.declared.fault.TextKind.TheVariants.{EmptyRange, TooManyVars, TooManyAtoms, TooManyTerms}
 use Rattle.lin_text.specs.declared.fault.TextKind.TheVariants.{NoMemory}
 use Rattle.lin_text.specs.Pieces.{Piece, var, word, name, number, minus, times, compare, bad, line_end, PlainToken}
 use Rattle.lin_text.specs.Pieces.{PlainLine, pieces}
+use Rattle.lin_text.specs.Kinds.{rank}
+use Rattle.lin_text.specs.FirstFaults.{IsFirst}
 use Rattle.lin_text.specs.Grammar.{Integer, Side, integer_pieces, integer_value, side_pieces, item_count, joint}
-use Rattle.lin_text.specs.Grammar.{BeginsLine}
+use Rattle.lin_text.specs.Grammar.{Naming, number_among, BeginsLine}
 
 -- a line that begins with the word `var`
 abbrev pub begins_variable : List Piece → Bool
@@ -53,6 +55,10 @@ declared_name _ = []
 abbrev pub declared_names : List PlainLine → List (List ℕ)
 declared_names = flat_map (λ line. declared_name (pieces line.tokens))
 
+-- the number of a name that the lines declare
+abbrev pub known : List PlainLine → Naming
+known lines = number_among (declared_names lines)
+
 -- how many lines declare variables
 abbrev pub variable_count : List PlainLine → ℕ
 variable_count = count_by (λ line. begins_variable (pieces line.tokens))
@@ -63,7 +69,7 @@ atom_count = count_by (λ line. begins_comparison (pieces line.tokens))
 
 -- a side begins behind these tokens: they are none, or a side and a comparison
 abbrev pub EndsBeforeSide : List Piece → Type 0
-EndsBeforeSide front = (front ≡ []) ⊎ ((left : Side) × (cmp : Cmp) × (front ≡ side_pieces left ++ compare cmp ∷ []))
+EndsBeforeSide front = (front ≡ []) ⊎ ((left : Side) × (sign : Sign) × (front ≡ side_pieces left ++ compare sign ∷ []))
 
 -- the tokens end with a side of as many items as may be and the sign of one more
 pub record EndsInFullSide (front : List Piece) : Type 0 where
@@ -119,20 +125,6 @@ pub record StandsAt (lines : List PlainLine) (kind : TextKind) (at : ℕ) : Type
   pub place : at ≡ token.from
   pub stands : Stands above (pieces front) token.piece (pieces after) kind
 
--- the order of the kinds at one place
-abbrev pub rank : TextKind → ℕ
-rank TooManyVars = 0
-rank TooManyAtoms = 1
-rank TooManyTerms = 2
-rank Token = 3
-rank Syntax = 4
-rank NumberTooLarge = 5
-rank UnknownName = 6
-rank NameTwice = 7
-rank EmptyRange = 8
-rank NoMemory = 9
-
 -- the fault that is answered: none stands at a place before it, and none that goes before it at its place
-pub record IsFirstFault (lines : List PlainLine) (kind : TextKind) (at : ℕ) : Type 0 where
-  pub stands : StandsAt lines kind at
-  pub least : (k : TextKind) (p : ℕ) → StandsAt lines k p → (at < p) ⊎ ((at ≡ p) × (rank kind ≤ rank k))
+abbrev pub IsFirstFault : List PlainLine → TextKind → ℕ → Type 0
+IsFirstFault lines = IsFirst rank (StandsAt lines)

@@ -1,10 +1,10 @@
 -- The lines of a query as trees, the tokens with which a tree is written, and what it means.
-use Rattle.std.specs.Prelude.{◌≡◌, ℕ, ◌+◌, Bool, false, List, [], ◌∷◌, ◌++◌, length, flat_map, slice_get, ℤ, pos, neg_ℤ}
-use Rattle.std.specs.Prelude.{◌*ℤ◌, Option, Some, None, if◌then◌else◌}
+use Rattle.std.specs.Prelude.{◌≡◌, ℕ, ◌+◌, Bool, false, List, [], ◌∷◌, ◌++◌, length, flat_map, ℤ, pos, neg_ℤ}
+use Rattle.std.specs.Prelude.{◌*ℤ◌, Option, Some, None, position, bytes_eq, if◌then◌else◌}
 use Rattle.lin_model.specs.Terms.{PlainVar, PlainTerm, TermFits, VarFits, ExprFits}
 use Rattle.lin_model.specs.declared.atom.Atom.{Atom}
-use Rattle.lin_model.specs.declared.atom.Cmp.{Cmp}
-use Rattle.lin_text.specs.Pieces.{Piece, var, name, number, plus, minus, times, compare, line_end}
+use Rattle.lin_text.specs.declared.class.Sign.{Sign}
+use Rattle.lin_text.specs.Pieces.{cmp_of, Piece, var, name, number, plus, minus, times, compare, line_end}
 
 -- an integer: `-` number, or number
 pub record Integer : Type 0 where
@@ -35,7 +35,7 @@ pub record Side : Type 0 where
 -- a line of a query: a name and two integers, or two sides and how they compare
 pub data Line : Type 0 where
   declaration : List ℕ → Integer → Integer → Line
-  comparison : Side → Cmp → Side → Line
+  comparison : Side → Sign → Side → Line
 
 -- a minus, or nothing
 abbrev pub sign : Bool → List Piece
@@ -74,7 +74,7 @@ item_count s = 1 + length s.later
 -- the tokens of a line, its end among them
 abbrev pub line_pieces : Line → List Piece
 line_pieces (declaration x lo hi) = var ∷ name x ∷ integer_pieces lo ++ integer_pieces hi ++ line_end ∷ []
-line_pieces (comparison left cmp right) = side_pieces left ++ compare cmp ∷ side_pieces right ++ line_end ∷ []
+line_pieces (comparison left sign right) = side_pieces left ++ compare sign ∷ side_pieces right ++ line_end ∷ []
 
 -- these tokens begin some line
 pub record BeginsLine (ps : List Piece) : Type 0 where
@@ -100,26 +100,34 @@ quantity_size (single x) = 1
 abbrev pub factor_of : Bool → Item → ℤ
 factor_of subtracted i = signed subtracted 1 *ℤ signed i.negative (quantity_size i.quantity)
 
--- the quantity is on the variable of this number, or on none; these are the names in order of declaration
-abbrev pub IsOn : List (List ℕ) → Quantity → Option ℕ → Type 0
+-- the number of a name, if it has one
+abbrev pub Naming : Type 0
+Naming = List ℕ → Option ℕ
+
+-- the number of a name is its place among these, from 0
+abbrev pub number_among : List (List ℕ) → Naming
+number_among names x = position (bytes_eq x) names
+
+-- the quantity is on the variable of this number, or on none
+abbrev pub IsOn : Naming → Quantity → Option ℕ → Type 0
 IsOn names (constant n) v = v ≡ None
-IsOn names (multiple n x) v = (k : ℕ) × (v ≡ Some k) × (slice_get names k ≡ Some x)
-IsOn names (single x) v = (k : ℕ) × (v ≡ Some k) × (slice_get names k ≡ Some x)
+IsOn names (multiple n x) v = (k : ℕ) × (v ≡ Some k) × (names x ≡ Some k)
+IsOn names (single x) v = (k : ℕ) × (v ≡ Some k) × (names x ≡ Some k)
 
 -- the item is this term, within the limits
-pub record IsTerm (names : List (List ℕ)) (subtracted : Bool) (i : Item) (term : PlainTerm) : Type 0 where
+pub record IsTerm (names : Naming) (subtracted : Bool) (i : Item) (term : PlainTerm) : Type 0 where
   pub factor : term.factor ≡ factor_of subtracted i
   pub on : IsOn names i.quantity term.var
   pub fits : TermFits term
 
 -- the items are these terms, one for each in order
-abbrev pub AreTerms : List (List ℕ) → List Joined → List PlainTerm → Type 0
+abbrev pub AreTerms : Naming → List Joined → List PlainTerm → Type 0
 AreTerms names [] terms = terms ≡ []
 AreTerms names (j ∷ js) [] = ⊥
 AreTerms names (j ∷ js) (term ∷ terms) = IsTerm names j.subtracted j.item term × AreTerms names js terms
 
 -- the side is these terms, one for each item in order, and no more than a side may have
-abbrev pub IsExpr : List (List ℕ) → Side → List PlainTerm → Type 0
+abbrev pub IsExpr : Naming → Side → List PlainTerm → Type 0
 IsExpr names s terms = AreTerms names (record { subtracted = false; item = s.first } ∷ s.later) terms × ExprFits terms
 
 -- the tokens of a line declare this variable
@@ -132,9 +140,11 @@ pub record Declares (ps : List Piece) (v : PlainVar) : Type 0 where
   pub fits : VarFits v
 
 -- the tokens of a line compare as this atom does
-pub record Compares (names : List (List ℕ)) (ps : List Piece) (atom : Atom) : Type 0 where
+pub record Compares (names : Naming) (ps : List Piece) (atom : Atom) : Type 0 where
   pub left : Side
+  pub sign : Sign
   pub right : Side
-  pub written : ps ≡ line_pieces (comparison left atom.cmp right)
+  pub written : ps ≡ line_pieces (comparison left sign right)
+  pub means : atom.cmp ≡ cmp_of sign
   pub left_terms : IsExpr names left atom.left
   pub right_terms : IsExpr names right atom.right

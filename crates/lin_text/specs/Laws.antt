@@ -1,28 +1,35 @@
 -- Laws of the texts of conditions.
-use Rattle.std.specs.Prelude.{◌≡◌, ℕ, ◌+◌, ◌<◌, ◌≤◌, Bool, false, ◌⊎◌, List, [], ◌∷◌, ◌++◌, length, take}
+use Rattle.std.specs.Prelude.{◌≡◌, ℕ, ◌+◌, ◌<◌, ◌≤◌, Bool, ◌⊎◌, List, [], ◌∷◌, ◌++◌, length, take, All, IsTrue}
+use Rattle.std.specs.Prelude.{IsFalse}
+use Rattle.lin_model.specs.Terms.{PlainVar}
 use Rattle.lin_model.specs.Conditions.{PlainCondition, IsCondition}
 use Rattle.lin_text.specs.Spelling.{condition_text}
-use Rattle.lin_text.specs.Pieces.{Piece, word, PlainLine, first_token}
+use Rattle.lin_text.specs.Pieces.{Piece, word, is_claim_word, PlainLine, first_token}
 use Rattle.lin_text.specs.Grammar.{BeginsLine}
 use Rattle.lin_text.specs.Faults.{StandsAt}
 use Rattle.lin_text.specs.declared.fault.TextKind.{TextKind}
 use Rattle.lin_text.specs.Queries.{Spell, Spells, HasFault}
 use Rattle.lin_text.specs.Tokens.{IsForm, IsLongest, token_length}
 
+-- in a text of proofs no variable is called by a word that only such a text reserves
+abbrev pub AreFree : Bool → List PlainVar → Type 0
+AreFree in_proof vars = IsTrue in_proof → All (λ v. IsFalse (is_claim_word v.name)) vars
+
 -- the plain spelling of a condition is spelled as that condition, to its end
 abbrev pub WrittenIsSpelled : Type 0
-WrittenIsSpelled =
-    (q : PlainCondition) → IsCondition q → Spells false (condition_text q) 0 q (length (condition_text q))
+WrittenIsSpelled = (in_proof : Bool) (q : PlainCondition) → IsCondition q → AreFree in_proof q.vars
+    → Spells in_proof (condition_text q) 0 q (length (condition_text q))
 
 -- nothing is there, or the first line begins with a reserved word other than `var`
-abbrev pub EndsQuery : List ℕ → Type 0
-EndsQuery rest = (rest ≡ []) ⊎ ((w : List ℕ) × ((first_token false rest 0).piece ≡ word w))
+abbrev pub EndsQuery : Bool → List ℕ → Type 0
+EndsQuery in_proof rest = (rest ≡ []) ⊎ ((w : List ℕ) × ((first_token in_proof rest 0).piece ≡ word w))
 
 -- so it is within a text, where the query ends behind it
 abbrev pub WrittenIsSpelledWithin : Type 0
 WrittenIsSpelledWithin =
-    (front rest : List ℕ) (q : PlainCondition) → IsCondition q → EndsQuery rest
-    → Spells false (front ++ (condition_text q ++ rest)) (length front) q (length front + length (condition_text q))
+    (in_proof : Bool) (front rest : List ℕ) (q : PlainCondition) → IsCondition q → AreFree in_proof q.vars
+    → EndsQuery in_proof rest → Spells in_proof (front ++ (condition_text q ++ rest)) (length front) q
+    (length front + length (condition_text q))
 
 -- a text spells one condition at most from a place on, and up to one place
 abbrev pub SpelledOnce : Type 0

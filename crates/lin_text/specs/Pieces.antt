@@ -3,7 +3,9 @@ use Rattle.std.specs.Prelude.{◌≡◌, ℕ, ◌+◌, ◌-◌, ◌*◌, ◌<◌
 use Rattle.std.specs.Prelude.{map, slice_range, bytes_eq, codes, MatchBool, if◌then◌else◌}
 use Rattle.lin_model.specs.Names.{is_reserved}
 use Rattle.lin_model.specs.declared.atom.Cmp.{Cmp}
-use Rattle.lin_model.specs.declared.atom.Cmp.TheVariants.{Le, Lt, Ge, Gt, Eq, Ne}
+use Rattle.lin_model.specs.declared.atom.Cmp.TheVariants as cmps
+use Rattle.lin_text.specs.declared.class.Sign.{Sign}
+use Rattle.lin_text.specs.declared.class.Sign.TheVariants.{Le, Lt, Ge, Gt, Eq, DoubleEq, Ne}
 use Rattle.lin_text.specs.declared.token.Token.{Token}
 use Rattle.lin_text.specs.declared.token.TokenKind.{TokenKind}
 use Rattle.lin_text.specs.declared.token.TokenKind.TheVariants.{Name, Number, Symbol, Bad, LineEnd}
@@ -19,7 +21,7 @@ pub data Piece : Type 0 where
   plus : Piece
   minus : Piece
   times : Piece
-  compare : Cmp → Piece
+  compare : Sign → Piece
   bad : Piece
   line_end : Piece
 
@@ -36,21 +38,32 @@ unfoldable pub name_piece : Bool → List ℕ → Piece
 name_piece in_proof text =
     if bytes_eq text (codes "var") then var else (if is_word in_proof text then word text else name text)
 
--- how a symbol compares, where it is none of the signs
-abbrev pub comparison_of : List ℕ → Cmp
-comparison_of text =
+-- how a sign compares
+abbrev pub cmp_of : Sign → Cmp
+cmp_of Le = cmps.Le
+cmp_of Lt = cmps.Lt
+cmp_of Ge = cmps.Ge
+cmp_of Gt = cmps.Gt
+cmp_of Eq = cmps.Eq
+cmp_of DoubleEq = cmps.Eq
+cmp_of Ne = cmps.Ne
+
+-- which sign a symbol is that is none of the others
+abbrev pub sign_of : List ℕ → Sign
+sign_of text =
     if bytes_eq text (codes "<=") then Le else
     (if bytes_eq text (codes "<") then Lt else
     (if bytes_eq text (codes ">=") then Ge else
     (if bytes_eq text (codes ">") then Gt else
-    (if bytes_eq text (codes "!=") then Ne else Eq))))
+    (if bytes_eq text (codes "!=") then Ne else
+    (if bytes_eq text (codes "==") then DoubleEq else Eq)))))
 
 -- what a symbol is
 unfoldable pub symbol_piece : List ℕ → Piece
 symbol_piece text =
     if bytes_eq text (codes "+") then plus else
     (if bytes_eq text (codes "-") then minus else
-    (if bytes_eq text (codes "*") then times else compare (comparison_of text)))
+    (if bytes_eq text (codes "*") then times else compare (sign_of text)))
 
 -- the number that the digits are
 abbrev pub number_of : List ℕ → ℕ

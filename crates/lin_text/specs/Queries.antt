@@ -7,7 +7,7 @@ use Rattle.lin_model.specs.declared.atom.Atom.{Atom}
 use Rattle.lin_model.specs.declared.condition.TheConstants.{MAX_VARS, MAX_ATOMS}
 use Rattle.lin_text.specs.declared.fault.TextKind.{TextKind}
 use Rattle.lin_text.specs.Pieces.{Piece, word, PlainLine, pieces, AreLines}
-use Rattle.lin_text.specs.Grammar.{Declares, Compares}
+use Rattle.lin_text.specs.Grammar.{number_among, Declares, Compares}
 use Rattle.lin_text.specs.Faults.{IsFirstFault}
 
 -- the first token is a reserved word other than `var`
@@ -42,7 +42,8 @@ AreDeclaredAndCompared above [] vars atoms = (vars ≡ []) × (atoms ≡ [])
 AreDeclaredAndCompared above (line ∷ lines) vars atoms =
     ((v : PlainVar) × (more : List PlainVar) × (vars ≡ v ∷ more) × Declares (pieces line.tokens) v
     × AreDeclaredAndCompared (above ++ v ∷ []) lines more atoms)
-    ⊎ ((a : Atom) × (more : List Atom) × (atoms ≡ a ∷ more) × Compares (names_of above) (pieces line.tokens) a
+    ⊎ ((a : Atom) × (more : List Atom) × (atoms ≡ a ∷ more) × Compares (number_among (names_of above))
+    (pieces line.tokens) a
     × AreDeclaredAndCompared above lines vars more)
 
 -- the lines of a query spell the condition

@@ -28,27 +28,28 @@ name_of vars var = slice_index_or (map (λ v. v.name) vars) var []
 unfoldable pub factor_text : ℕ → List ℕ
 factor_text size = if size == 1 then [] else decimal size ++ codes "*"
 
--- a term without its sign: a constant is its number, else it is the factor and the name
-unfoldable pub size_text : List PlainVar → ℕ → Option ℕ → List ℕ
-size_text vars size None = decimal size
-size_text vars size (Some var) = factor_text size ++ name_of vars var
+-- a term without its sign, where variables have these names: a constant is its number, else it is the factor and the
+-- name
+unfoldable pub size_text : (ℕ → List ℕ) → ℕ → Option ℕ → List ℕ
+size_text names size None = decimal size
+size_text names size (Some var) = factor_text size ++ names var
 
 -- the first term of a side
-unfoldable pub first_term : List PlainVar → PlainTerm → List ℕ
-first_term vars term = minus_of term.factor ++ size_text vars (unsigned_abs term.factor) term.var
+unfoldable pub first_term : (ℕ → List ℕ) → PlainTerm → List ℕ
+first_term names term = minus_of term.factor ++ size_text names (unsigned_abs term.factor) term.var
 
 -- what joins a later term to those before it
 unfoldable pub joint_of : ℤ → List ℕ
 joint_of z = if is_negative z then codes " - " else codes " + "
 
 -- a later term
-unfoldable pub later_term : List PlainVar → PlainTerm → List ℕ
-later_term vars term = joint_of term.factor ++ size_text vars (unsigned_abs term.factor) term.var
+unfoldable pub later_term : (ℕ → List ℕ) → PlainTerm → List ℕ
+later_term names term = joint_of term.factor ++ size_text names (unsigned_abs term.factor) term.var
 
 -- a side: its terms in order
-unfoldable pub side_text : List PlainVar → List PlainTerm → List ℕ
-side_text vars [] = []
-side_text vars (term ∷ terms) = first_term vars term ++ flat_map (later_term vars) terms
+unfoldable pub side_text : (ℕ → List ℕ) → List PlainTerm → List ℕ
+side_text names [] = []
+side_text names (term ∷ terms) = first_term names term ++ flat_map (later_term names) terms
 
 -- the sign of a comparison
 unfoldable pub cmp_text : Cmp → List ℕ
@@ -62,7 +63,8 @@ cmp_text Ne = codes "!="
 -- a comparison, without the line feed
 unfoldable pub atom_text : List PlainVar → Atom → List ℕ
 atom_text vars atom =
-    side_text vars atom.left ++ codes " " ++ cmp_text atom.cmp ++ codes " " ++ side_text vars atom.right
+    side_text (name_of vars) atom.left ++ codes " " ++ cmp_text atom.cmp ++ codes " "
+    ++ side_text (name_of vars) atom.right
 
 -- the bounds behind a name
 unfoldable pub bounds_text : ℤ → ℤ → List ℕ

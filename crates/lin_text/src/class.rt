@@ -1,14 +1,42 @@
 //! What a token is for the grammar: which word, which sign, which number.
-ghost use Rattle.std.specs.Prelude.{◌≡◌, ◌≤◌, ◌+◌, min, length, slice_range, bytes_eq};
+ghost use Rattle.std.specs.Prelude.{◌≡◌, ◌≤◌, min, length, slice_range, bytes_eq};
 ghost use Rattle.lin_model.specs.Names.{IsName};
-ghost use Rattle.lin_text.specs.Pieces.{number_of, piece_of, comparison_of, name_piece, symbol_piece, is_word};
+ghost use Rattle.lin_text.specs.Pieces.{number_of, piece_of, cmp_of, sign_of, name_piece, symbol_piece, is_word};
 ghost use Rattle.lin_text.specs.Pieces.{is_claim_word, first_token};
 ghost use Rattle.lin_text.specs.Classes.{class_of, shown};
 
 use crate::token::{TokenKind, next_token};
-use lin_model::{Cmp, MAX_CONSTANT, is_reserved};
+use lin_model::{CONSTANT_LIMIT, Cmp, is_reserved};
 
-/// What a token is for the grammar. A number beyond every limit is 2^40 + 1.
+/// A sign that compares, as it is spelled. `==` means what `=` means.
+#[derive(Clone, Copy, Debug, PartialEq, Eq)]
+pub enum Sign {
+    Le,
+    Lt,
+    Ge,
+    Gt,
+    Eq,
+    DoubleEq,
+    Ne,
+}
+
+impl Sign {
+    /// How it compares.
+    pub fn cmp(self) -> Cmp
+        ensures { result ≡ cmp_of self }
+    {
+        match self {
+            Sign::Le => Cmp::Le,
+            Sign::Lt => Cmp::Lt,
+            Sign::Ge => Cmp::Ge,
+            Sign::Gt => Cmp::Gt,
+            Sign::Eq | Sign::DoubleEq => Cmp::Eq,
+            Sign::Ne => Cmp::Ne,
+        }
+    }
+}
+
+/// What a token is for the grammar. A number that is too large for any text is `TOO_LARGE`.
 #[derive(Clone, Copy, Debug, PartialEq, Eq)]
 pub enum Class {
     /// The word `var`.
@@ -20,7 +48,7 @@ pub enum Class {
     Plus,
     Minus,
     Times,
-    Compare(Cmp),
+    Compare(Sign),
     /// What is no token.
     Bad,
     LineEnd,
@@ -34,12 +62,13 @@ pub struct Lexeme {
     pub to: usize,
 }
 
-/// The least number that is beyond every limit.
-const TOO_LARGE: u64 = MAX_CONSTANT + 1;
+/// The least number that is too large for any text: the constants of canonical atoms, which have the widest limit, are
+/// smaller.
+pub const TOO_LARGE: u64 = CONSTANT_LIMIT;
 
-/// The number that the digits are, or the least that is beyond every limit.
+/// The number that the digits are, or the least that is too large for any text.
 fn number_of(digits: &[u8]) -> u64
-    ensures { result ≡ min (number_of digits.now) (MAX_CONSTANT + 1) }
+    ensures { result ≡ min (number_of digits.now) TOO_LARGE }
 {
     let mut number = 0;
     for digit in digits {
@@ -82,22 +111,24 @@ fn class_of_name(text: &[u8], in_proof: bool) -> Class
     }
 }
 
-/// How a symbol compares. One that is none of the others is `=` or `==`.
-fn comparison_of(text: &[u8]) -> Cmp
-    ensures { result ≡ comparison_of text.now }
+/// Which sign a symbol is. One that is none of the others is `=`.
+fn sign_of(text: &[u8]) -> Sign
+    ensures { result ≡ sign_of text.now }
 {
     if is_text(text, "<=") {
-        Cmp::Le
+        Sign::Le
     } else if is_text(text, "<") {
-        Cmp::Lt
+        Sign::Lt
     } else if is_text(text, ">=") {
-        Cmp::Ge
+        Sign::Ge
     } else if is_text(text, ">") {
-        Cmp::Gt
+        Sign::Gt
     } else if is_text(text, "!=") {
-        Cmp::Ne
+        Sign::Ne
+    } else if is_text(text, "==") {
+        Sign::DoubleEq
     } else {
-        Cmp::Eq
+        Sign::Eq
     }
 }
 
@@ -113,7 +144,7 @@ fn class_of_symbol(text: &[u8]) -> Class
     } else if is_text(text, "*") {
         Class::Times
     } else {
-        Class::Compare(comparison_of(text))
+        Class::Compare(sign_of(text))
     }
 }
 

@@ -67,7 +67,7 @@ impl Draft {
         bytes: &[u8],
         in_proof: bool,
         word: Lexeme,
-    ) -> Result<Draft, ReadError>
+    ) -> Result<Draft, ReadError<TextKind>>
         requires { word.to ≤ length bytes.now }
         ensures { Gives result (var_line_at in_proof bytes.now self word) }
     {
@@ -85,7 +85,7 @@ impl Draft {
         Ok(Draft { names, vars, atoms })
     }
 
-    /// The query with the atom of the line that starts at `start`, which begins with the token.
+    /// The query with the atom of the line that begins with the token.
     #[tactic(auto, unfolding(crate::specs::Reading::atom_line_at))]
     fn with_atom(
         self,
@@ -93,10 +93,10 @@ impl Draft {
         bytes: &[u8],
         in_proof: bool,
         first: Lexeme,
-        start: usize,
-    ) -> Result<Draft, ReadError>
-        requires { start ≤ length bytes.now }
-        ensures { Gives result (atom_line_at in_proof bytes.now self first start) }
+    ) -> Result<Draft, ReadError<TextKind>>
+        requires order { first.from ≤ first.to }
+        requires within { first.to ≤ length bytes.now }
+        ensures { Gives result (atom_line_at in_proof bytes.now self first) }
     {
         let Draft {
             names,
@@ -106,13 +106,12 @@ impl Draft {
         if atoms.len() == MAX_ATOMS {
             return Err(ReadError::Fault(full_query_at(first)));
         }
-        let atom = read_atom_line(alloc, bytes, in_proof, &names, start)?;
+        let atom = read_atom_line(alloc, bytes, in_proof, &names, first)?;
         atoms.push(atom)?;
         Ok(Draft { names, vars, atoms })
     }
 
-    /// The query with the line that starts at `start` and begins with the token, which is no reserved
-    /// word but `var`.
+    /// The query with the line that begins with the token, which is no reserved word but `var`.
     #[tactic(auto, unfolding(crate::specs::Reading::line_at))]
     pub fn with_line(
         self,
@@ -120,15 +119,14 @@ impl Draft {
         bytes: &[u8],
         in_proof: bool,
         first: Lexeme,
-        start: usize,
-    ) -> Result<Draft, ReadError>
-        requires start { start ≤ length bytes.now }
-        requires first { first.to ≤ length bytes.now }
-        ensures { Gives result (line_at in_proof bytes.now self first start) }
+    ) -> Result<Draft, ReadError<TextKind>>
+        requires order { first.from ≤ first.to }
+        requires within { first.to ≤ length bytes.now }
+        ensures { Gives result (line_at in_proof bytes.now self first) }
     {
         match first.class {
             Class::Var => self.with_variable(alloc, bytes, in_proof, first),
-            _ => self.with_atom(alloc, bytes, in_proof, first, start),
+            _ => self.with_atom(alloc, bytes, in_proof, first),
         }
     }
 }
@@ -145,7 +143,7 @@ fn begins_atom(class: Class) -> bool
 
 /// The fault where a query has all the comparisons that it may have.
 #[tactic(auto, unfolding(crate::specs::Reading::full_query_at))]
-fn full_query_at(token: Lexeme) -> Fault
+fn full_query_at(token: Lexeme) -> Fault<TextKind>
     ensures { result ≡ full_query_at token }
 {
     if begins_atom(token.class) {

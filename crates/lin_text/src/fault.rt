@@ -1,4 +1,5 @@
 //! What can be wrong with a text, and where.
+ghost use Rattle.std.specs.Prelude.{◌≡◌};
 
 use thiserror::Error;
 
@@ -93,6 +94,28 @@ pub enum SessionKind {
     /// Memory ran out.
     #[error("out of memory")]
     NoMemory,
+}
+
+impl From<TextKind> for SessionKind {
+    ghost use Rattle.lin_text.specs.Kinds.{session_kind};
+
+    ghost from_gives = { λ text session. session ≡ session_kind text };
+
+    /// The kind of a fault of a query's text, as a kind of a session's.
+    fn from(kind: TextKind) -> SessionKind {
+        match kind {
+            TextKind::Token => SessionKind::Token,
+            TextKind::Syntax => SessionKind::Syntax,
+            TextKind::NumberTooLarge => SessionKind::NumberTooLarge,
+            TextKind::UnknownName => SessionKind::UnknownName,
+            TextKind::NameTwice => SessionKind::NameTwice,
+            TextKind::EmptyRange => SessionKind::EmptyRange,
+            TextKind::TooManyVars => SessionKind::TooManyVars,
+            TextKind::TooManyAtoms => SessionKind::TooManyAtoms,
+            TextKind::TooManyTerms => SessionKind::TooManyTerms,
+            TextKind::NoMemory => SessionKind::NoMemory,
+        }
+    }
 }
 
 /// A fault of a session's text, at a line and a column, both counted from 1. For `NoMemory` both are 0.

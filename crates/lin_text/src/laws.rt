@@ -2,7 +2,9 @@
 ghost use Rattle.lin_text.specs.Laws.{OneFirstFault, SpelledHasNoFault, SpelledLinesHaveNoFault, SpelledOnce};
 ghost use Rattle.lin_text.specs.Laws.{SpelledOrFaulty, TokensAreLongest, WordsStandInNoLine, WrittenIsSpelled};
 ghost use Rattle.lin_text.specs.Laws.{WrittenIsSpelledWithin};
+ghost use Rattle.lin_text.specs.KeyAtomLaws.{AtomSpelledOnce, WrittenAtomIsSpelled};
 ghost use Rattle.lin_text.specs.LineLaws.{LinesAreInOrder, TokensMoveWithTheirText};
+ghost use Rattle.lin_text.specs.FoundLaws.{LinesAreNext, TokensAreNext};
 
 /// What is written for a condition is spelled as that condition, in the sense of the grammar.
 pub fn written_is_spelled()
@@ -44,6 +46,17 @@ pub fn tokens_are_longest()
     ensures { TokensAreLongest }
 {}
 
+/// The line that is found is the least line start at or behind the place that isn't skipped, else the input's length.
+pub fn lines_are_next()
+    ensures { LinesAreNext }
+{}
+
+/// The token that is found is of its kind, by the forms of tokens; no token is found just where none begins, and the
+/// line's end just where nothing more stands on the line.
+pub fn tokens_are_next()
+    ensures { TokensAreNext }
+{}
+
 /// The lines of a text, and the tokens of a line, lie one behind the other; each place up to the end has its lines and
 /// its tokens, and there is one list of lines.
 pub fn lines_are_in_order()
@@ -58,4 +71,14 @@ pub fn tokens_move_with_their_text()
 /// A text spells a condition or has a fault.
 pub fn spelled_or_faulty()
     ensures { SpelledOrFaulty }
+{}
+
+/// What is written for a canonical atom spells it, wherever a line feed ends the line behind it.
+pub fn written_atom_is_spelled()
+    ensures { WrittenAtomIsSpelled }
+{}
+
+/// A text spells one canonical atom at most from a place on.
+pub fn atom_spelled_once()
+    ensures { AtomSpelledOnce }
 {}

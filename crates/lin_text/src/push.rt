@@ -2,6 +2,7 @@
 ghost use Rattle.std.specs.Prelude.{◌≡◌, ◌++◌, OnOk, OnErr, decimal};
 ghost use Rattle.lin_text.specs.Spelling.{integer, minus_of};
 
+use itoa::Buffer;
 use outside::NoMemory;
 
 /// Adds the number at the end: a minus where it is below 0, and its digits. Where memory runs out, nothing is
@@ -11,8 +12,7 @@ pub fn push_integer(out: &mut Vec<u8>, number: i64) -> Result<(), NoMemory>
     ensures text { OnOk result (out.new.items ≡ out.old.items ++ integer number) }
     ensures kept { OnErr result (out.new.items ≡ out.old.items) }
 {
-    let digits = number.to_string(*out.allocator())?;
-    push_str(out, digits.as_str())
+    push_str(out, Buffer::new().format(number))
 }
 
 /// Adds the number at the end, in decimal digits with no leading zeros. Where memory runs out, nothing is added.
@@ -20,8 +20,7 @@ pub fn push_number(out: &mut Vec<u8>, number: u64) -> Result<(), NoMemory>
     ensures text { OnOk result (out.new.items ≡ out.old.items ++ decimal number) }
     ensures kept { OnErr result (out.new.items ≡ out.old.items) }
 {
-    let digits = number.to_string(*out.allocator())?;
-    push_str(out, digits.as_str())
+    push_str(out, Buffer::new().format(number))
 }
 
 /// Adds the text at the end. Where memory runs out, nothing is added.

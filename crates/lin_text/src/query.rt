@@ -27,7 +27,7 @@ pub fn read_lines(
     bytes: &[u8],
     in_proof: bool,
     start: usize,
-) -> Result<(Condition, usize), ReadError>
+) -> Result<(Condition, usize), ReadError<TextKind>>
     requires { start ≤ length bytes.now }
     ensures read { IfOk result (λ r. Spells in_proof bytes.now start r.0 r.1) }
     ensures fault { IfErr result (IsReadError in_proof bytes.now start) }
@@ -40,7 +40,7 @@ pub fn read_lines(
         if is_word(first.class) {
             return Ok((query.into_condition(), at));
         }
-        query = query.with_line(alloc, bytes, in_proof, first, at)?;
+        query = query.with_line(alloc, bytes, in_proof, first)?;
         at = first_line(bytes, line_below(bytes, at));
     }
     Ok((query.into_condition(), at))

@@ -9,71 +9,71 @@ use std::alloc::{AllocError, AllocFailed};
 
 /// A fault, at a place among the bytes, counted from 0.
 #[derive(Clone, Copy, Debug)]
-pub struct Fault {
+pub struct Fault<K> {
     /// What is wrong there.
-    pub kind: TextKind,
+    pub kind: K,
     /// The place of the byte.
     pub at: usize,
 }
 
 /// Why a part wasn't read.
 #[derive(Clone, Copy, Debug)]
-pub enum ReadError {
+pub enum ReadError<K> {
     /// Memory ran out.
     NoMemory,
     /// The first fault of the text.
-    Fault(Fault),
+    Fault(Fault<K>),
 }
 
-impl From<AllocError> for ReadError {
+impl<K> From<AllocError> for ReadError<K> {
     ghost use Rattle.lin_text.specs.declared.refusal.ReadError.TheVariants as errors;
 
     ghost from_gives = { λ _ e. e ≡ errors.NoMemory };
 
-    fn from(_error: AllocError) -> ReadError {
+    fn from(_error: AllocError) -> ReadError<K> {
         ReadError::NoMemory
     }
 }
 
-impl<T: Drop> From<AllocFailed<T>> for ReadError {
+impl<K, T: Drop> From<AllocFailed<T>> for ReadError<K> {
     ghost use Rattle.lin_text.specs.declared.refusal.ReadError.TheVariants as errors;
 
     ghost from_gives = { λ _ e. e ≡ errors.NoMemory };
 
-    fn from(_error: AllocFailed<T>) -> ReadError {
+    fn from(_error: AllocFailed<T>) -> ReadError<K> {
         ReadError::NoMemory
     }
 }
 
-impl From<NoMemory> for ReadError {
+impl<K> From<NoMemory> for ReadError<K> {
     ghost use Rattle.lin_text.specs.declared.refusal.ReadError.TheVariants as errors;
 
     ghost from_gives = { λ _ e. e ≡ errors.NoMemory };
 
-    fn from(_error: NoMemory) -> ReadError {
+    fn from(_error: NoMemory) -> ReadError<K> {
         ReadError::NoMemory
     }
 }
 
-impl From<Fault> for ReadError {
+impl<K> From<Fault<K>> for ReadError<K> {
     ghost use Rattle.lin_text.specs.declared.refusal.ReadError.TheVariants as errors;
 
     ghost from_gives = { λ f e. e ≡ errors.Fault f };
 
-    fn from(fault: Fault) -> ReadError {
+    fn from(fault: Fault<K>) -> ReadError<K> {
         ReadError::Fault(fault)
     }
 }
 
 /// The fault of this kind at a place.
-pub fn fault_at(kind: TextKind, at: usize) -> Fault
+pub fn fault_at<K>(kind: K, at: usize) -> Fault<K>
     ensures { result ≡ fault_at kind at }
 {
     Fault { kind, at }
 }
 
 /// The fault of a token that can't come next: it is no token, or it doesn't fit the grammar.
-pub fn refusal(token: Lexeme) -> Fault
+pub fn refusal(token: Lexeme) -> Fault<TextKind>
     ensures { result ≡ refusal token }
 {
     let kind = match token.class {

@@ -96,7 +96,7 @@ fn push_atom(out: &mut Vec<u8>, vars: &[Var], atom: &Atom) -> Result<(), NoMemor
 }
 
 #[tactic(auto, unfolding(crate::specs::Spelling::cmp_text))]
-fn cmp_sign(cmp: Cmp) -> &'static str
+pub(crate) fn cmp_sign(cmp: Cmp) -> &'static str
     ensures { result.now ≡ cmp_text cmp }
 {
     match cmp {
@@ -111,7 +111,7 @@ fn cmp_sign(cmp: Cmp) -> &'static str
 
 #[tactic(auto, unfolding(crate::specs::Spelling::side_text))]
 fn push_side(out: &mut Vec<u8>, vars: &[Var], side: &Expr) -> Result<(), NoMemory>
-    ensures text { OnOk result (out.new.items ≡ out.old.items ++ side_text vars.now side.now) }
+    ensures text { OnOk result (out.new.items ≡ out.old.items ++ side_text (name_of vars.now) side.now) }
     ensures fits { OnOk result (ExprFits side.now) }
     ensures terms { OnOk result (All TermFits side.now) }
 {
@@ -126,7 +126,7 @@ fn push_side(out: &mut Vec<u8>, vars: &[Var], side: &Expr) -> Result<(), NoMemor
 
 #[tactic(auto, unfolding(crate::specs::Spelling::first_term))]
 fn push_first_term(out: &mut Vec<u8>, vars: &[Var], term: &Term) -> Result<(), NoMemory>
-    ensures text { OnOk result (out.new.items ≡ out.old.items ++ first_term vars.now term.now) }
+    ensures text { OnOk result (out.new.items ≡ out.old.items ++ first_term (name_of vars.now) term.now) }
     ensures fits { OnOk result (TermFits term.now) }
 {
     push_str(out, minus(term.factor()))?;
@@ -134,7 +134,7 @@ fn push_first_term(out: &mut Vec<u8>, vars: &[Var], term: &Term) -> Result<(), N
 }
 
 fn push_later_terms(out: &mut Vec<u8>, vars: &[Var], terms: &[Term]) -> Result<(), NoMemory>
-    ensures text { OnOk result (out.new.items ≡ out.old.items ++ flat_map (later_term vars.now) terms.now) }
+    ensures text { OnOk result (out.new.items ≡ out.old.items ++ flat_map (later_term (name_of vars.now)) terms.now) }
     ensures fits { OnOk result (All TermFits terms.now) }
 {
     for term in terms {
@@ -145,7 +145,7 @@ fn push_later_terms(out: &mut Vec<u8>, vars: &[Var], terms: &[Term]) -> Result<(
 
 #[tactic(auto, unfolding(crate::specs::Spelling::later_term))]
 fn push_later_term(out: &mut Vec<u8>, vars: &[Var], term: &Term) -> Result<(), NoMemory>
-    ensures text { OnOk result (out.new.items ≡ out.old.items ++ later_term vars.now term.now) }
+    ensures text { OnOk result (out.new.items ≡ out.old.items ++ later_term (name_of vars.now) term.now) }
     ensures fits { OnOk result (TermFits term.now) }
 {
     push_str(out, joint(term.factor()))?;
@@ -153,7 +153,7 @@ fn push_later_term(out: &mut Vec<u8>, vars: &[Var], term: &Term) -> Result<(), N
 }
 
 #[tactic(auto, unfolding(crate::specs::Spelling::joint_of))]
-fn joint(factor: i64) -> &'static str
+pub(crate) fn joint(factor: i64) -> &'static str
     ensures { result.now ≡ joint_of factor }
 {
     if factor < 0 { " - " } else { " + " }
@@ -161,7 +161,7 @@ fn joint(factor: i64) -> &'static str
 
 #[tactic(auto, unfolding(crate::specs::Spelling::size_text))]
 fn push_size(out: &mut Vec<u8>, vars: &[Var], size: u64, var: Option<u32>) -> Result<(), NoMemory>
-    ensures { OnOk result (out.new.items ≡ out.old.items ++ size_text vars.now size var) }
+    ensures { OnOk result (out.new.items ≡ out.old.items ++ size_text (name_of vars.now) size var) }
 {
     match var {
         None => push_number(out, size),
@@ -173,7 +173,7 @@ fn push_size(out: &mut Vec<u8>, vars: &[Var], size: u64, var: Option<u32>) -> Re
 }
 
 #[tactic(auto, unfolding(crate::specs::Spelling::factor_text))]
-fn push_factor(out: &mut Vec<u8>, size: u64) -> Result<(), NoMemory>
+pub(crate) fn push_factor(out: &mut Vec<u8>, size: u64) -> Result<(), NoMemory>
     ensures { OnOk result (out.new.items ≡ out.old.items ++ factor_text size) }
 {
     if size == 1 {

@@ -10,13 +10,15 @@ use Rattle.lin_text.specs.declared.fault.SessionKind.TheVariants as kinds
 use Rattle.lin_text.specs.Pieces.{Piece, var, word, name, number, plus, minus, times, compare, bad, line_end}
 use Rattle.lin_text.specs.Pieces.{PlainToken, PlainLine, pieces, AreLines}
 use Rattle.lin_text.specs.LineLaws.{LinesAreInOrder}
+use Rattle.lin_text.specs.Kinds.{session_rank as rank}
+use Rattle.lin_text.specs.FirstFaults.{IsFirst}
+use Rattle.lin_text.specs.FirstFaultFacts.{first_here}
 use Rattle.session_text.specs.declared.class.Class.TheVariants.{Executor, Query, End, Other}
 use Rattle.session_text.specs.Words.{executor_word, query_word, end_word}
 use Rattle.session_text.specs.Classes.{class_of, refusal_kind}
-use Rattle.session_text.specs.Faults.{Seen, count_of, CanCome, query_above, IsOneTooMany, CantCome, IsOfQuery}
-use Rattle.session_text.specs.Faults.{StandsInLine, StandsIn, IsFirst, rank}
+use Rattle.session_text.specs.Faults.{Seen, count_of, CanCome, query_above, IsOneTooMany, CantCome, IsOfQuery, rules}
+use Rattle.session_text.proofs.FirstFaults.{StandsIn, StandsInLine, ends_last}
 use Rattle.session_text.proofs.WordLemmas.{same_bytes, bytes_eq-is, executor_not_query}
-use Rattle.session_text.proofs.FirstFaults.{first_here}
 
 -- the fault of a token that can't come next, by what the token is and how often the words came before it
 pub data Refused (p : Piece) (e n : ℕ) (kind : SessionKind) : Type 0 where
@@ -182,5 +184,6 @@ module _ (in_order : LinesAreInOrder) (bytes : List ℕ) (seen : Seen) (at : ℕ
         ]
       ]
 
-  pub refused_at : IsFirst (StandsIn bytes seen (line ∷ lines)) kind t.from
-  refused_at = first_here in_order bytes seen at line lines are kind t.from stands least
+  pub refused_at : IsFirst rank (StandsIn bytes seen (line ∷ lines)) kind t.from
+  refused_at = first_here rules ends_last false bytes (in_order false bytes) seen at line lines are kind t.from stands
+      least

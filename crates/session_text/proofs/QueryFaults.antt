@@ -11,18 +11,20 @@ use Rattle.lin_text.specs.declared.fault.TextKind.TheVariants as texts
 use Rattle.lin_text.specs.declared.fault.SessionKind.{SessionKind}
 use Rattle.lin_text.specs.Lines.{line_from, line_below}
 use Rattle.lin_text.specs.Pieces.{Piece, var, word, PlainToken, PlainLine, pieces, AreLines}
-use Rattle.lin_text.specs.Faults.{Stands, StandsAt as LinesFault, rank as text_rank}
+use Rattle.lin_text.specs.Faults.{Stands, StandsAt as LinesFault}
+use Rattle.lin_text.specs.Kinds.{rank as text_rank, session_rank as rank}
 use Rattle.lin_text.specs.Queries.{begins_word, is_of_query, query_lines, start_of, Spells}
 use Rattle.lin_text.specs.Laws.{WordsStandInNoLine}
 use Rattle.lin_text.specs.Facts.{line_from-end}
+use Rattle.lin_text.specs.FirstFaults.{IsFirst}
+use Rattle.lin_text.specs.FirstFaultFacts.{IsFirst-map}
 use Rattle.session_text.specs.Words.{executor_word, query_word}
 use Rattle.session_text.specs.Faults.{Part, executor, query, Seen, is_the_word, count_of, first_word, part_of_word}
-use Rattle.session_text.specs.Faults.{seen_below, query_above, IsOneTooMany, CantCome, IsOfQuery, StandsInLine}
-use Rattle.session_text.specs.Faults.{StandsIn, IsFirst}
+use Rattle.session_text.specs.Faults.{seen_below, query_above, IsOneTooMany, CantCome, IsOfQuery}
 use Rattle.session_text.specs.Reading.{HasFaultFrom}
 use Rattle.session_text.specs.Lawful.{TextsAreLawful}
+use Rattle.session_text.proofs.FirstFaults.{StandsIn, StandsInLine, Leads}
 use Rattle.session_text.proofs.TokenLemmas.{line_from-again}
-use Rattle.session_text.proofs.FirstFaults.{IsFirst-map, Leads}
 
 pub word_first : (above : List PlainLine) (front after : List Piece) (w : List ℕ) (k : TextKind)
     → Stands above front (word w) after k → text_rank k ≤ 4 → k ≡ texts.Syntax
@@ -299,7 +301,10 @@ same_below own e n line is =
 same_part : (bytes : List ℕ) (own rest : List PlainLine) (e n : ℕ) → StartsWithWord rest → (k : SessionKind) (p : ℕ)
     → (StandsIn bytes (in_query own e n) rest k p → StandsIn bytes (asked e n) rest k p)
     × (StandsIn bytes (asked e n) rest k p → StandsIn bytes (in_query own e n) rest k p)
-same_part bytes own [] e n stops k p = (λ s. (s.0, s.1, λ x. cc), λ s. (s.0, s.1, λ x. cc))
+same_part bytes own [] e n stops k p = (
+  λ s. ((s.0.0, λ x. cc), s.1),
+  λ s. ((s.0.0, λ x. cc), s.1),
+)
 same_part bytes own (line ∷ lines) e n stops k p =
     let here = same_line own e n line stops k p in
     let seen = same_below own e n line stops in (
@@ -365,9 +370,9 @@ module _ (laws : TextsAreLawful) (bytes : List ℕ) (at : ℕ) (q : PlainConditi
   back k p h = record {
     lines = c.own ++ c.rest;
     are = all;
-    first = IsFirst-map (StandsIn bytes (asked e n) c.rest)
+    first = IsFirst-map rank (StandsIn bytes (asked e n) c.rest)
         (StandsIn bytes (in_query [] e n) (c.own ++ c.rest)) k p from to
-        (subst (λ (ls : List PlainLine). IsFirst (StandsIn bytes (asked e n) ls) k p)
+        (subst (λ (ls : List PlainLine). IsFirst rank (StandsIn bytes (asked e n) ls) k p)
         ((laws.in_order false bytes).lines_once stop h.lines c.rest h.are rest) h.first);
   }
 
@@ -376,9 +381,9 @@ module _ (laws : TextsAreLawful) (bytes : List ℕ) (at : ℕ) (q : PlainConditi
   forth k p h = record {
     lines = c.rest;
     are = rest;
-    first = IsFirst-map (StandsIn bytes (in_query [] e n) (c.own ++ c.rest))
+    first = IsFirst-map rank (StandsIn bytes (in_query [] e n) (c.own ++ c.rest))
         (StandsIn bytes (asked e n) c.rest) k p to from
-        (subst (λ (ls : List PlainLine). IsFirst (StandsIn bytes (in_query [] e n) ls) k p)
+        (subst (λ (ls : List PlainLine). IsFirst rank (StandsIn bytes (in_query [] e n) ls) k p)
         ((laws.in_order false bytes).lines_once at h.lines (c.own ++ c.rest) h.are all) h.first);
   }
 

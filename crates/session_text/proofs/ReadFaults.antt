@@ -7,32 +7,23 @@ use Rattle.lin_text.specs.declared.fault.TextKind.TheVariants as texts
 use Rattle.lin_text.specs.declared.fault.SessionKind.{SessionKind}
 use Rattle.lin_text.specs.Lines.{line_below, is_in_line}
 use Rattle.lin_text.specs.Pieces.{Piece, word, bad, PlainToken, PlainLine, pieces, AreLines}
-use Rattle.lin_text.specs.Faults.{Stands, StandsAt as LinesFault, IsFirstFault, rank as text_rank}
+use Rattle.lin_text.specs.Faults.{Stands, StandsAt as LinesFault, IsFirstFault}
+use Rattle.lin_text.specs.Kinds.{rank as text_rank, session_kind, session_rank as rank}
 use Rattle.lin_text.specs.Queries.{begins_word, HasFault}
 use Rattle.lin_text.specs.Laws.{WordsStandInNoLine}
 use Rattle.lin_text.specs.LineLaws.{LinesAreInOrder}
+use Rattle.lin_text.specs.FirstFaultFacts.{IsFirst-map, first_here}
+use Rattle.lin_text.specs.KindFacts.{rank-kept}
 use Rattle.session_text.specs.Words.{executor_word, query_word, token_at}
 use Rattle.session_text.specs.Classes.{class_of, query_refusal}
-use Rattle.session_text.specs.Faults.{count_of, session_kind, IsOneTooMany, IsOfQuery, StandsInLine, StandsIn, rank}
+use Rattle.session_text.specs.Faults.{count_of, IsOneTooMany, IsOfQuery, rules}
 use Rattle.session_text.specs.Reading.{HasFaultFrom}
+use Rattle.session_text.proofs.FirstFaults.{StandsIn, StandsInLine, ends_last}
 use Rattle.session_text.proofs.WordLemmas.{executor_not_query}
 use Rattle.session_text.proofs.TokenLemmas.{token-again}
-use Rattle.session_text.proofs.FirstFaults.{IsFirst-map, first_here}
 use Rattle.session_text.proofs.LineFaults.{Refused, no_token, one_executor, one_query, cant_come, refused, refused-rank}
 use Rattle.session_text.proofs.QueryFaults.{word_stands, word_first, count_none, in_query, query_stands, stands_query}
 use Rattle.session_text.proofs.QueryFaults.{AreCleanLines, clean_prefix, NoWords, Cut, cut, are_rest}
-
-session_rank : (k : TextKind) → rank (session_kind k) ≡ 3 + text_rank k
-session_rank texts.TooManyVars = refl
-session_rank texts.TooManyAtoms = refl
-session_rank texts.TooManyTerms = refl
-session_rank texts.Token = refl
-session_rank texts.Syntax = refl
-session_rank texts.NumberTooLarge = refl
-session_rank texts.UnknownName = refl
-session_rank texts.NameTwice = refl
-session_rank texts.EmptyRange = refl
-session_rank texts.NoMemory = refl
 
 -- how the fault of a query is answered in a session
 data Answered (p : Piece) (e n : ℕ) (k : TextKind) (kind : SessionKind) : Type 0 where
@@ -54,7 +45,7 @@ answered texts.NoMemory p e n = as_it_is (λ x. cc) refl
 answered-rank : (p : Piece) (e n : ℕ) (k : TextKind) (kind : SessionKind) → Answered p e n k kind
     → rank kind ≤ 3 + text_rank k
 answered-rank p e n k kind (a_token is r) = omega (arith, refused-rank p e n kind r, ap text_rank is)
-answered-rank p e n k kind (as_it_is other is) = omega (arith, ap rank is, session_rank k)
+answered-rank p e n k kind (as_it_is other is) = omega (arith, ap rank is, rank-kept k)
 
 NoWords-at : (above lines : List PlainLine) (line : PlainLine) (own : List PlainLine) → own ≡ above ++ line ∷ lines
     → NoWords own → NoWords above × (begins_word (pieces line.tokens) ≡ false)
@@ -292,7 +283,7 @@ module _ (in_order : LinesAreInOrder) (no_word : WordsStandInNoLine) (bytes : Li
               | inl later ↦ inl (omega (arith, later, s.place))
               | inr same ↦ inr (
                 omega (arith, same.0, s.place),
-                omega (arith, same.1, answered-rank f.token.piece e n k kind way, ap rank is, session_rank i),
+                omega (arith, same.1, answered-rank f.token.piece e n k kind way, ap rank is, rank-kept i),
               )
             ]
 
@@ -300,11 +291,12 @@ module _ (in_order : LinesAreInOrder) (no_word : WordsStandInNoLine) (bytes : Li
     from_start = record {
       lines = f.above ++ f.line ∷ below;
       are = all;
-      first = IsFirst-map (StandsIn bytes (in_query f.above e n) (f.line ∷ below))
+      first = IsFirst-map rank (StandsIn bytes (in_query f.above e n) (f.line ∷ below))
           (StandsIn bytes (in_query [] e n) (f.above ++ f.line ∷ below)) kind place
           (λ j p. (clean_prefix no_word bytes [] f.above (f.line ∷ below) e n clean j p).1)
           (λ j p. (clean_prefix no_word bytes [] f.above (f.line ∷ below) e n clean j p).0)
-          (first_here in_order bytes (in_query f.above e n) f.line.start f.line below here kind place stands least);
+          (first_here rules ends_last false bytes (in_order false bytes) (in_query f.above e n) f.line.start f.line
+          below here kind place stands least);
     }
 
   -- the first token from the place of the fault

@@ -5,10 +5,10 @@ use Rattle.lin_text.specs.declared.fault.SessionKind.{SessionKind}
 use Rattle.lin_text.specs.Lines.{line_from}
 use Rattle.lin_text.specs.Pieces.{PlainLine, AreLines}
 use Rattle.session_text.specs.Sessions.{body_of}
-use Rattle.session_text.specs.Faults.{StandsIn}
 use Rattle.session_text.specs.Laws.{SpelledHasNoFault}
 use Rattle.session_text.specs.Reading.{HasFaultFrom, part_after}
 use Rattle.session_text.specs.Lawful.{TextsAreLawful}
+use Rattle.session_text.proofs.FirstFaults.{StandsIn}
 use Rattle.session_text.proofs.WordLines.{behind_end, between-no_query, between-end, Leads-executors, Leads-end}
 use Rattle.session_text.proofs.Wholes.{fault_behind}
 
@@ -18,7 +18,7 @@ nothing_behind : (bytes : List ℕ) (e n at : ℕ) (k : SessionKind) (p : ℕ) �
 nothing_behind bytes e n at k p whole h = by_lines h.lines h.are h.first.stands
   where
     by_lines : (lines : List PlainLine) → AreLines false bytes at lines → StandsIn bytes (behind_end e n) lines k p → ⊥
-    by_lines [] are s = s.2 refl
+    by_lines [] are s = s.0.1 refl
     by_lines (line ∷ lines) are s = omega (arith, are.0, are.1, whole)
 
 pub SpellsSession-no_fault : TextsAreLawful → SpelledHasNoFault

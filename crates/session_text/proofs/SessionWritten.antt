@@ -3,6 +3,7 @@ use Rattle.std.proofs.Common.{◌≡◌, ℕ, ◌+◌, ◌≤◌, false, List, [
 use Rattle.std.proofs.Common.{◌∙◌, append_assoc, arith, inr, length-append, length-drop, All, flat_map}
 use Rattle.std.specs.Prelude.{codes}
 use Rattle.std.specs.List.{prefix_len}
+use Rattle.std.proofs.lemmas.Bool.{false≢true}
 use Rattle.std.proofs.lemmas.List.{drop-drop, take-append-drop, length-take-le}
 use Rattle.std.proofs.lemmas.List.Elements.{All-head, All-tail}
 use Rattle.lin_model.specs.Conditions.{PlainCondition, IsCondition}
@@ -52,15 +53,15 @@ reaches bytes at xs ys le e = omega (arith, ap length e, length-append xs ys, le
 
 -- the words behind a query
 
-EndsQuery-query : (more : List ℕ) → EndsQuery (codes "query\n" ++ more)
+EndsQuery-query : (more : List ℕ) → EndsQuery false (codes "query\n" ++ more)
 unfolding token_from token_here token_length plain_token piece_of name_piece
 EndsQuery-query more = inr (codes "query", refl)
 
-EndsQuery-executor : (more : List ℕ) → EndsQuery (codes "executor\n" ++ more)
+EndsQuery-executor : (more : List ℕ) → EndsQuery false (codes "executor\n" ++ more)
 unfolding token_from token_here token_length plain_token piece_of name_piece
 EndsQuery-executor more = inr (codes "executor", refl)
 
-EndsQuery-end : (more : List ℕ) → EndsQuery (codes "end\n" ++ more)
+EndsQuery-end : (more : List ℕ) → EndsQuery false (codes "end\n" ++ more)
 unfolding token_from token_here token_length plain_token piece_of name_piece
 EndsQuery-end more = inr (codes "end", refl)
 
@@ -69,11 +70,11 @@ EndsQuery-end more = inr (codes "end", refl)
 abbrev more_queries : List PlainCondition → List ℕ → List ℕ
 more_queries qs rest = flat_map query_text qs ++ rest
 
-queries_end : (qs : List PlainCondition) (rest : List ℕ) → EndsQuery rest → EndsQuery (more_queries qs rest)
+queries_end : (qs : List PlainCondition) (rest : List ℕ) → EndsQuery false rest → EndsQuery false (more_queries qs rest)
 unfolding query_text
 queries_end [] rest ends = ends
 queries_end (q ∷ qs) rest ends =
-    subst EndsQuery (sym (append_assoc (line (codes "query") ++ condition_text q) (flat_map query_text qs) rest
+    subst (EndsQuery false) (sym (append_assoc (line (codes "query") ++ condition_text q) (flat_map query_text qs) rest
     ∙ append_assoc (line (codes "query")) (condition_text q) (more_queries qs rest)))
     (EndsQuery-query (condition_text q ++ more_queries qs rest))
 
@@ -95,10 +96,12 @@ executor_split qs es rest =
     append_assoc (line (codes "executor") ++ flat_map query_text qs) (flat_map executor_text es) rest
     ∙ append_assoc (line (codes "executor")) (flat_map query_text qs) (more_executors es rest)
 
-executors_end : (es : List (List PlainCondition)) (rest : List ℕ) → EndsQuery rest → EndsQuery (more_executors es rest)
+executors_end : (es : List (List PlainCondition)) (rest : List ℕ) → EndsQuery false rest
+    → EndsQuery false (more_executors es rest)
 executors_end [] rest ends = ends
 executors_end (qs ∷ es) rest ends =
-    subst EndsQuery (sym (executor_split qs es rest)) (EndsQuery-executor (more_queries qs (more_executors es rest)))
+    subst (EndsQuery false) (sym (executor_split qs es rest))
+    (EndsQuery-executor (more_queries qs (more_executors es rest)))
 
 -- the header, and the end
 
@@ -170,7 +173,7 @@ module _ (moves : TokensMoveWithTheirText) where
 module _ (moves : TokensMoveWithTheirText) (condition_within : WrittenIsSpelledWithin) where
   -- a condition within a text
   condition_there : (bytes : List ℕ) (at : ℕ) (q : PlainCondition) (rest : List ℕ) → at ≤ length bytes → IsCondition q
-      → EndsQuery rest → drop at bytes ≡ condition_text q ++ rest
+      → EndsQuery false rest → drop at bytes ≡ condition_text q ++ rest
       → Spells false bytes at q (at + length (condition_text q))
   condition_there bytes at q rest le is ends e =
       let front : List ℕ = take at bytes in
@@ -179,9 +182,10 @@ module _ (moves : TokensMoveWithTheirText) (condition_within : WrittenIsSpelledW
       let long : length front ≡ at = length-take-le at bytes le in
       subst (λ (m : ℕ). Spells false bytes m q (m + length (condition_text q))) long
       (subst (λ (xs : List ℕ). Spells false xs (length front) q (length front + length (condition_text q))) all
-      (condition_within front rest q is ends))
+      (condition_within false front rest q is (λ no. absurd (false≢true no)) ends))
 
-  queries_written : (bytes rest : List ℕ) (qs : List PlainCondition) (at : ℕ) → All IsCondition qs → EndsQuery rest
+  queries_written : (bytes rest : List ℕ) (qs : List PlainCondition) (at : ℕ) → All IsCondition qs
+      → EndsQuery false rest
       → at ≤ length bytes → drop at bytes ≡ more_queries qs rest
       → (stop : ℕ) × AreQueries bytes at qs stop × (stop ≤ length bytes) × (drop stop bytes ≡ rest)
   queries_written bytes rest [] at all ends le e = (at, refl, le, e)
@@ -213,7 +217,7 @@ module _ (moves : TokensMoveWithTheirText) (condition_within : WrittenIsSpelledW
       )
 
   executors_written : (bytes rest : List ℕ) (es : List (List PlainCondition)) (at : ℕ) → All (All IsCondition) es
-      → EndsQuery rest → at ≤ length bytes → drop at bytes ≡ more_executors es rest
+      → EndsQuery false rest → at ≤ length bytes → drop at bytes ≡ more_executors es rest
       → (stop : ℕ) × AreExecutors bytes at es stop × (stop ≤ length bytes) × (drop stop bytes ≡ rest)
   executors_written bytes rest [] at all ends le e = (at, refl, le, e)
   executors_written bytes rest (qs ∷ es) at all ends le e =

@@ -10,9 +10,9 @@ use Rattle.lin_text.specs.Pieces.{Piece, word, line_end, PlainLine, AreLines}
 use Rattle.lin_text.specs.Queries.{Spells, start_of}
 use Rattle.lin_text.specs.LineLaws.{LinesAreInOrder}
 use Rattle.lin_text.specs.Facts.{first_line-bounds}
-use Rattle.session_text.specs.declared.refusal.Fault.{Fault}
-use Rattle.session_text.specs.declared.refusal.ReadError.{ReadError}
-use Rattle.session_text.specs.declared.refusal.ReadError.TheVariants as errors
+use Rattle.lin_text.specs.declared.refusal.Fault.{Fault}
+use Rattle.lin_text.specs.declared.refusal.ReadError.{ReadError}
+use Rattle.lin_text.specs.declared.refusal.ReadError.TheVariants as errors
 use Rattle.session_text.specs.Words.{executor_word, query_word, end_word, token_at, second_at, IsHeader, IsWordLine}
 use Rattle.session_text.specs.Sessions.{IsQuery, AreQueries, IsExecutor, AreExecutors, body_of}
 use Rattle.session_text.specs.Classes.{class_of, refusal_kind}
@@ -25,25 +25,28 @@ use Rattle.session_text.proofs.QueryFaults.{asked, Cut, cut}
 use Rattle.session_text.proofs.WordLines.{between, between-no_query, between-executor, between-end, begins_before_end}
 use Rattle.session_text.proofs.Wholes.{second_refused, whole_fault}
 
-pub IsReadError-back : (bytes : List ℕ) (s t : Seen) (at to : ℕ) (e : ReadError) → Leads bytes s at t to
+pub IsReadError-back : (bytes : List ℕ) (s t : Seen) (at to : ℕ) (e : ReadError SessionKind) → Leads bytes s at t to
     → IsReadError t bytes to e → IsReadError s bytes at e
 IsReadError-back bytes s t at to errors.NoMemory l h = tt
 IsReadError-back bytes s t at to (errors.Fault f) l h = l.back f.kind f.at h
 
 -- a fault of the text from a later place, between which and the first none stands
-pub handed_on : {X : Type 0} (r : Result X ReadError) (bytes : List ℕ) (s t : Seen) (at to : ℕ) → Leads bytes s at t to
+pub handed_on : {X : Type 0} (r : Result X (ReadError SessionKind)) (bytes : List ℕ) (s t : Seen) (at to : ℕ)
+    → Leads bytes s at t to
     → IfErr r (IsReadError t bytes to) → IfErr r (IsReadError s bytes at)
 handed_on (Ok x) bytes s t at to l h = tt
 handed_on (Err e) bytes s t at to l h = IsReadError-back bytes s t at to e l h
 
 -- the same through a `?`
-pub handed_up : {X : Type 0} (r : Result X ReadError) (e : ReadError) (bytes : List ℕ) (s : Seen) (at : ℕ)
+pub handed_up : {X : Type 0} (r : Result X (ReadError SessionKind)) (e : ReadError SessionKind) (bytes : List ℕ)
+    (s : Seen) (at : ℕ)
     → IsErrAnd r (λ x. x ≡ e) → IsReadError s bytes at e → IfErr r (IsReadError s bytes at)
 handed_up (Ok x) e bytes s at is h = tt
-handed_up (Err x) e bytes s at is h = subst (λ (y : ReadError). IsReadError s bytes at y) (sym is) h
+handed_up (Err x) e bytes s at is h = subst (λ (y : ReadError SessionKind). IsReadError s bytes at y) (sym is) h
 
 -- a fault that was found
-pub fault_is : (f : Fault) (bytes : List ℕ) (s : Seen) (at : ℕ) (kind : SessionKind) (place : ℕ) → f.kind ≡ kind
+pub fault_is : (f : Fault SessionKind) (bytes : List ℕ) (s : Seen) (at : ℕ) (kind : SessionKind) (place : ℕ)
+    → f.kind ≡ kind
     → f.at ≡ place → HasFaultFrom s bytes at kind place → HasFaultFrom s bytes at f.kind f.at
 fault_is f bytes s at kind place k p h = subst (λ (j : SessionKind). HasFaultFrom s bytes at j f.at) (sym k)
     (subst (λ (m : ℕ). HasFaultFrom s bytes at kind m) (sym p) h)
@@ -110,27 +113,31 @@ cant_begin e p no_executor no_query no_end x =
 
 -- a fault that is handed on, where nothing takes memory
 
-pub fault_up : {X : Type 0} (r : Result X Fault) (f : Fault) (bytes : List ℕ) (s : Seen) (at : ℕ)
+pub fault_up : {X : Type 0} (r : Result X (Fault SessionKind)) (f : Fault SessionKind) (bytes : List ℕ) (s : Seen)
+    (at : ℕ)
     → IsErrAnd r (λ x. x ≡ f) → IsFaultFrom s bytes at f → IfErr r (IsFaultFrom s bytes at)
 fault_up (Ok x) f bytes s at is h = tt
-fault_up (Err x) f bytes s at is h = subst (λ (y : Fault). IsFaultFrom s bytes at y) (sym is) h
+fault_up (Err x) f bytes s at is h = subst (λ (y : Fault SessionKind). IsFaultFrom s bytes at y) (sym is) h
 
-pub fault_on : {X : Type 0} (r : Result X Fault) (bytes : List ℕ) (s t : Seen) (at to : ℕ) → Leads bytes s at t to
+pub fault_on : {X : Type 0} (r : Result X (Fault SessionKind)) (bytes : List ℕ) (s t : Seen) (at to : ℕ)
+    → Leads bytes s at t to
     → IfErr r (IsFaultFrom t bytes to) → IfErr r (IsFaultFrom s bytes at)
 fault_on (Ok x) bytes s t at to l h = tt
 fault_on (Err f) bytes s t at to l h = l.back f.kind f.at h
 
 -- a fault behind the header is one of the whole text
-pub whole_error : (bytes : List ℕ) (at : ℕ) (e : ReadError) → IsHeader bytes (line_from bytes 0) → at ≡ body_of bytes
+pub whole_error : (bytes : List ℕ) (at : ℕ) (e : ReadError SessionKind) → IsHeader bytes (line_from bytes 0)
+    → at ≡ body_of bytes
     → IsReadError nothing_seen bytes at e → IsSessionError bytes e
 whole_error bytes at errors.NoMemory header_is is h = tt
 whole_error bytes at (errors.Fault f) header_is is h =
     whole_fault bytes header_is f.kind f.at (subst (λ (m : ℕ). HasFaultFrom nothing_seen bytes m f.kind f.at) is h)
 
-pub whole_up : {X : Type 0} (r : Result X ReadError) (e : ReadError) (bytes : List ℕ) → IsErrAnd r (λ x. x ≡ e)
+pub whole_up : {X : Type 0} (r : Result X (ReadError SessionKind)) (e : ReadError SessionKind) (bytes : List ℕ)
+    → IsErrAnd r (λ x. x ≡ e)
     → IsSessionError bytes e → IfErr r (IsSessionError bytes)
 whole_up (Ok x) e bytes is h = tt
-whole_up (Err x) e bytes is h = subst (λ (y : ReadError). IsSessionError bytes y) (sym is) h
+whole_up (Err x) e bytes is h = subst (λ (y : ReadError SessionKind). IsSessionError bytes y) (sym is) h
 
 -- the lines and tokens of a text are in order
 module _ (in_order : LinesAreInOrder) where

@@ -12,7 +12,7 @@ use Rattle.lin_text.specs.declared.token.TokenKind.TheVariants as kinds
 use Rattle.lin_text.specs.Lines.{is_feed, is_blank, is_skipped, first_line, line_from}
 use Rattle.lin_text.specs.Tokens.{token_from, token_here, token_of, token_length, kind_of, nothing_at}
 use Rattle.lin_text.specs.Pieces.{var, word, name, compare, plus, minus, times, line_end as line_end_piece, PlainToken}
-use Rattle.lin_text.specs.Pieces.{plain_token, piece_of, name_piece, symbol_piece, is_word, comparison_of, is_last}
+use Rattle.lin_text.specs.Pieces.{plain_token, piece_of, name_piece, symbol_piece, is_word, sign_of, is_last}
 use Rattle.lin_text.specs.Pieces.{AreTokens}
 use Rattle.lin_text.specs.Facts.{first_line-bounds, line_from-here}
 use Rattle.session_text.specs.Words.{token_at, second_at, text_of}
@@ -160,7 +160,7 @@ name_piece-no_end false true text e = cc
 name_piece-no_end false false text e = cc
 
 symbol_piece-no_end : (p m t : Bool) (text : List ℕ)
-    → cond p plus (cond m minus (cond t times (compare (comparison_of text)))) ≡ line_end_piece → ⊥
+    → cond p plus (cond m minus (cond t times (compare (sign_of text)))) ≡ line_end_piece → ⊥
 symbol_piece-no_end true m t text e = cc
 symbol_piece-no_end false true t text e = cc
 symbol_piece-no_end false false true text e = cc

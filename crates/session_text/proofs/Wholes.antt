@@ -9,13 +9,15 @@ use Rattle.lin_text.specs.Lines.{line_from, line_end as end_of, is_in_line}
 use Rattle.lin_text.specs.Pieces.{Piece, word, line_end, PlainToken, PlainLine, pieces, AreLines}
 use Rattle.lin_text.specs.LineLaws.{LinesAreInOrder}
 use Rattle.lin_text.specs.Facts.{first_line-bounds}
+use Rattle.lin_text.specs.Kinds.{session_rank as rank}
+use Rattle.lin_text.specs.FirstFaultFacts.{IsFirst-map, stands_behind}
 use Rattle.session_text.specs.Words.{executor_word, query_word, token_at, second_at, IsHeader}
 use Rattle.session_text.specs.Sessions.{body_of}
 use Rattle.session_text.specs.Classes.{class_of, refusal_kind}
-use Rattle.session_text.specs.Faults.{ended, Seen, count_of, CanCome, StandsIn, StandsAt, nothing_seen, HasFault, rank}
+use Rattle.session_text.specs.Faults.{ended, Seen, count_of, CanCome, StandsAt, nothing_seen, HasFault, rules}
 use Rattle.session_text.specs.Reading.{HasFaultFrom}
+use Rattle.session_text.proofs.FirstFaults.{StandsIn}
 use Rattle.session_text.proofs.TokenLemmas.{one_token, first_two}
-use Rattle.session_text.proofs.FirstFaults.{IsFirst-map, stands_behind}
 use Rattle.session_text.proofs.LineFaults.{Refused, one_executor, one_query, refused, OwnStands, refused-stands}
 use Rattle.session_text.proofs.LineFaults.{refused_at}
 use Rattle.session_text.proofs.WordLines.{IsNoQuery, IsWelcome, welcome_clean, Lines, lines_there, begins_before_end}
@@ -31,8 +33,8 @@ no_end bytes seen at none goes_on = record {
   lines = [];
   are = none;
   first = record {
-    stands = (refl, refl, goes_on);
-    least = λ k p s. inr (sym s.1, let same : 13 ≡ rank k = sym (ap rank s.0) in omega (arith, same));
+    stands = ((refl, goes_on), refl);
+    least = λ k p s. inr (sym s.1, let same : 13 ≡ rank k = sym (ap rank s.0.0) in omega (arith, same));
   };
 }
 
@@ -42,7 +44,7 @@ pub whole_fault : (bytes : List ℕ) → IsHeader bytes (line_from bytes 0) → 
 whole_fault bytes is k p h = record {
   lines = h.lines;
   are = h.are;
-  first = IsFirst-map (StandsIn bytes nothing_seen h.lines) (StandsAt bytes h.lines) k p (λ j q s. inr s)
+  first = IsFirst-map rank (StandsIn bytes nothing_seen h.lines) (StandsAt bytes h.lines) k p (λ j q s. inr s)
       (λ j q s. below j q s) h.first;
 } where
   below : (j : SessionKind) (q : ℕ) → StandsAt bytes h.lines j q → StandsIn bytes nothing_seen h.lines j q
@@ -54,7 +56,7 @@ pub fault_behind : (bytes : List ℕ) → IsHeader bytes (line_from bytes 0) →
 fault_behind bytes is k p h = record {
   lines = h.lines;
   are = h.are;
-  first = IsFirst-map (StandsAt bytes h.lines) (StandsIn bytes nothing_seen h.lines) k p (λ j q s. below j q s)
+  first = IsFirst-map rank (StandsAt bytes h.lines) (StandsIn bytes nothing_seen h.lines) k p (λ j q s. below j q s)
       (λ j q s. inr s) h.first;
 } where
   below : (j : SessionKind) (q : ℕ) → StandsAt bytes h.lines j q → StandsIn bytes nothing_seen h.lines j q
@@ -220,12 +222,13 @@ module _ (in_order : LinesAreInOrder) where
         → (place < p) ⊎ ((place ≡ p) × (rank kinds.BadHeader ≤ rank k))
     least k p (inl b) = inr (sym b.place, omega arith)
     least k p (inr s) =
-        elim (stands_behind in_order bytes nothing_seen (body_of bytes) more.0 (omega arith) more.1 k p s) [
+        elim (stands_behind rules false bytes (in_order false bytes) nothing_seen (body_of bytes) more.0 (omega arith)
+        more.1 k p s) [
           | inl h ↦ inl (omega (arith, h.0, h.1, within))
           | inr h ↦ elim (nat_lt place p) as (λ b. nat_lt place p ≡ b
               → (place < p) ⊎ ((place ≡ p) × (rank kinds.BadHeader ≤ rank k))) [
                 | true ↦ λ e. inl (ltb-true place p e)
                 | false ↦ λ e. let ge : p ≤ place =
-                    ltb-false place p e in inr (omega (arith, ge, h.1, within, whole), omega arith)
+                    ltb-false place p e in inr (omega (arith, ge, h.2, within, whole), omega arith)
               ] refl
         ]

@@ -4,7 +4,7 @@ use Rattle.std.proofs.Common.{◌⊎◌}
 use Rattle.std.specs.Prelude.{bytes_eq, codes}
 use Rattle.std.proofs.lemmas.Slice.Eq.{bytes_eq-Decides}
 use Rattle.lin_text.specs.Pieces.{Piece, var, word, name, compare, plus, minus, times, name_piece, symbol_piece}
-use Rattle.lin_text.specs.Pieces.{is_word, comparison_of}
+use Rattle.lin_text.specs.Pieces.{is_word, sign_of}
 use Rattle.session_text.specs.declared.class.Class.{Class}
 use Rattle.session_text.specs.declared.class.Class.TheVariants.{Executor, Query, End, Other}
 use Rattle.session_text.specs.Words.{executor_word, query_word, end_word}
@@ -81,7 +81,7 @@ class_of-name_piece text =
 pub ruleset class_of_name = (class_of-name_piece)
 
 by_signs : (p m t : Bool) (text : List ℕ) → class_of
-    (cond p plus (cond m minus (cond t times (compare (comparison_of text))))) ≡ Other
+    (cond p plus (cond m minus (cond t times (compare (sign_of text))))) ≡ Other
 by_signs true m t text = refl
 by_signs false true t text = refl
 by_signs false false true text = refl

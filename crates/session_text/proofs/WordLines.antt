@@ -5,8 +5,8 @@ use Rattle.std.specs.Prelude.{sum_by, ◌==◌}
 use Rattle.std.proofs.lemmas.List.{at_drop_all}
 use Rattle.std.proofs.lemmas.List.Sums.{sum_by-cons}
 use Rattle.std.proofs.lemmas.Bool.Decides.{eqb_tells}
-use borrow.Author.Tests.{ltb-true, ltb-false}
 use Rattle.std.specs.List.{prefix_len}
+use borrow.Author.Tests.{ltb-true, ltb-false}
 use Rattle.lin_model.specs.Conditions.{PlainCondition}
 use Rattle.lin_text.specs.declared.fault.SessionKind.{SessionKind}
 use Rattle.lin_text.specs.Lines.{line_from, line_below, is_blank}
@@ -14,15 +14,16 @@ use Rattle.lin_text.specs.Tokens.{token_from, token_here}
 use Rattle.lin_text.specs.Pieces.{Piece, word, line_end, PlainToken, PlainLine, plain_token, piece_of, pieces}
 use Rattle.lin_text.specs.Pieces.{AreTokens, AreLines}
 use Rattle.lin_text.specs.LineLaws.{LinesAreInOrder}
+use Rattle.lin_text.specs.FirstFaultFacts.{Leads-refl, Leads-trans, clean_line}
 use Rattle.session_text.specs.Words.{executor_word, query_word, end_word, token_at, second_at, IsWordLine}
 use Rattle.session_text.specs.Sessions.{IsQuery, AreQueries, IsExecutor, AreExecutors}
 use Rattle.session_text.specs.Faults.{Part, header, executor, ended, Seen, count_of, part_of_word, seen_below, MayBegin}
-use Rattle.session_text.specs.Faults.{query_above, StandsInLine}
+use Rattle.session_text.specs.Faults.{query_above, rules}
 use Rattle.session_text.specs.Reading.{part_after}
 use Rattle.session_text.specs.Lawful.{TextsAreLawful}
+use Rattle.session_text.proofs.FirstFaults.{StandsInLine, Leads}
 use Rattle.session_text.proofs.WordLemmas.{executor_not_query, executor_not_end, query_not_end}
 use Rattle.session_text.proofs.TokenLemmas.{two_tokens}
-use Rattle.session_text.proofs.FirstFaults.{Leads, Leads-refl, Leads-trans, clean_line}
 use Rattle.session_text.proofs.LineFaults.{OwnStands, own_stands}
 use Rattle.session_text.proofs.QueryFaults.{in_query, asked, Leads-query}
 
@@ -132,7 +133,7 @@ module _ (in_order : LinesAreInOrder) where
   Leads-word bytes seen at below w own is welcome =
       subst (λ (m : ℕ). Leads bytes seen at (seen_word seen w) m) (sym is.next)
       (subst (λ (s : Seen). Leads bytes seen at s (line_below bytes start)) seen_is
-      (clean_line in_order bytes seen at line refl lt are clean))
+      (clean_line rules false bytes (in_order false bytes) seen at line refl lt are clean))
     where
       start : ℕ
       start = line_from bytes at
@@ -230,7 +231,7 @@ module _ (laws : TextsAreLawful) where
   pub Leads-asked : (bytes : List ℕ) (e n at stop : ℕ) (q : PlainCondition) → (n ≡ 100000 → ⊥) → IsQuery bytes at q stop
       → Leads bytes (asked e n) at (asked e (n + 1)) stop
   Leads-asked bytes e n at stop q few is =
-      Leads-trans bytes (asked e n) (in_query [] e (n + 1)) (asked e (n + 1)) at is.below stop
+      Leads-trans rules false bytes (asked e n) (in_query [] e (n + 1)) (asked e (n + 1)) at is.below stop
       (Leads-query_line laws.in_order bytes e n at is.below few is.line)
       (Leads-query laws bytes is.below q stop e (n + 1) is.spelled)
 
@@ -238,11 +239,12 @@ module _ (laws : TextsAreLawful) where
       → AreQueries bytes at qs stop → Leads bytes (asked e n) at (asked e (n + length qs)) stop
   Leads-queries bytes e n at stop [] few are =
       subst (λ (m : ℕ). Leads bytes (asked e n) at (asked e m) stop) (let same : n ≡ n + 0 = omega arith in same)
-      (subst (λ (m : ℕ). Leads bytes (asked e n) at (asked e n) m) (sym are) (Leads-refl bytes (asked e n) at))
+      (subst (λ (m : ℕ). Leads bytes (asked e n) at (asked e n) m) (sym are)
+      (Leads-refl rules false bytes (asked e n) at))
   Leads-queries bytes e n at stop (q ∷ qs) few are =
       subst (λ (m : ℕ). Leads bytes (asked e n) at (asked e m) stop)
       (let same : n + 1 + length qs ≡ n + suc (length qs) = omega arith in same)
-      (Leads-trans bytes (asked e n) (asked e (n + 1)) (asked e (n + 1 + length qs)) at are.0 stop
+      (Leads-trans rules false bytes (asked e n) (asked e (n + 1)) (asked e (n + 1 + length qs)) at are.0 stop
       (Leads-asked bytes e n at are.0 q (λ full. omega (arith, full, few)) are.1)
       (Leads-queries bytes e (n + 1) are.0 stop qs (omega (arith, few)) are.2))
 
@@ -250,7 +252,7 @@ module _ (laws : TextsAreLawful) where
       → IsExecutor bytes at qs stop → Leads bytes (between e n) at (between (e + 1) (n + length qs)) stop
   Leads-one bytes e n at stop qs few few_queries is =
       subst (λ (s : Seen). Leads bytes (between e n) at s stop) (between-some e (n + length qs))
-      (Leads-trans bytes (between e n) (asked (e + 1) n) (asked (e + 1) (n + length qs)) at is.below stop
+      (Leads-trans rules false bytes (between e n) (asked (e + 1) n) (asked (e + 1) (n + length qs)) at is.below stop
       (Leads-executor laws.in_order bytes (part_after e) e n at is.below (between-no_query e)
       (between-executor e) few is.line) (Leads-queries bytes (e + 1) n is.below stop qs few_queries is.asked))
 
@@ -261,14 +263,15 @@ module _ (laws : TextsAreLawful) where
       subst (λ (m : ℕ). Leads bytes (between e n) at (between m (n + 0)) stop) (let same : e ≡ e + 0 = omega arith in
       same)
       (subst (λ (m : ℕ). Leads bytes (between e n) at (between e m) stop) (let same : n ≡ n + 0 = omega arith in same)
-      (subst (λ (m : ℕ). Leads bytes (between e n) at (between e n) m) (sym are) (Leads-refl bytes (between e n) at)))
+      (subst (λ (m : ℕ). Leads bytes (between e n) at (between e n) m) (sym are)
+      (Leads-refl rules false bytes (between e n) at)))
   Leads-executors bytes e n at stop (qs ∷ es) few few_queries are =
       let sum : sum_by length (qs ∷ es) ≡ length qs + sum_by length es = sum_by-cons length qs es in
       subst (λ (m : ℕ). Leads bytes (between e n) at (between m (n + sum_by length (qs ∷ es))) stop)
       (let same : e + 1 + length es ≡ e + suc (length es) = omega arith in same)
       (subst (λ (m : ℕ). Leads bytes (between e n) at (between (e + 1 + length es) m) stop)
       (let same : n + length qs + sum_by length es ≡ n + sum_by length (qs ∷ es) = omega (arith, sum) in same)
-      (Leads-trans bytes (between e n) (between (e + 1) (n + length qs))
+      (Leads-trans rules false bytes (between e n) (between (e + 1) (n + length qs))
       (between (e + 1 + length es) (n + length qs + sum_by length es)) at are.0 stop
       (Leads-one bytes e n at are.0 qs (λ full. omega (arith, full, few)) (omega (arith, few_queries, sum)) are.1)
       (Leads-executors bytes (e + 1) (n + length qs) are.0 stop es (omega (arith, few))

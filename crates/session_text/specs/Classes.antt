@@ -6,10 +6,10 @@ use Rattle.lin_text.specs.declared.fault.TextKind.TheVariants as texts
 use Rattle.lin_text.specs.declared.fault.SessionKind.{SessionKind}
 use Rattle.lin_text.specs.declared.fault.SessionKind.TheVariants as kinds
 use Rattle.lin_text.specs.Pieces.{Piece, word, bad, line_end}
+use Rattle.lin_text.specs.Kinds.{session_kind}
 use Rattle.session_text.specs.declared.class.Class.{Class}
 use Rattle.session_text.specs.declared.class.Class.TheVariants.{Executor, Query, End, Other, Bad, LineEnd}
 use Rattle.session_text.specs.Words.{executor_word, query_word, end_word}
-use Rattle.session_text.specs.Faults.{session_kind}
 
 -- the class of a reserved word
 abbrev pub class_of_word : List ℕ → Class

@@ -1,17 +1,16 @@
 -- The faults of a session's text: at which tokens each kind stands, and which fault is answered.
-use Rattle.std.specs.Prelude.{◌≡◌, ◌≢◌, ℕ, ◌+◌, ◌<◌, ◌≤◌, Bool, false, ◌⊎◌, List, [], ◌∷◌, ◌++◌, length, count_by}
+use Rattle.std.specs.Prelude.{◌≡◌, ◌≢◌, ℕ, ◌+◌, Bool, false, ◌⊎◌, List, [], ◌∷◌, ◌++◌, count_by}
 use Rattle.std.specs.Prelude.{bytes_eq, Option, Some, None, MatchOption, if◌then◌else◌}
 use Rattle.lin_model.specs.declared.session.TheConstants.{MAX_EXECUTORS, MAX_QUERIES}
 use Rattle.lin_text.specs.declared.fault.TextKind.{TextKind}
-use Rattle.lin_text.specs.declared.fault.TextKind.TheVariants as texts
 use Rattle.lin_text.specs.declared.fault.SessionKind.{SessionKind}
 use Rattle.lin_text.specs.declared.fault.SessionKind.TheVariants.{BadHeader, TooManyExecutors, TooManyQueries, NoEnd}
-use Rattle.lin_text.specs.declared.fault.SessionKind.TheVariants.{Token, Syntax, NumberTooLarge, UnknownName, NameTwice}
-use Rattle.lin_text.specs.declared.fault.SessionKind.TheVariants.{EmptyRange, TooManyVars, TooManyAtoms, TooManyTerms}
-use Rattle.lin_text.specs.declared.fault.SessionKind.TheVariants.{NoMemory}
+use Rattle.lin_text.specs.declared.fault.SessionKind.TheVariants.{Token, Syntax}
 use Rattle.lin_text.specs.Lines.{line_from}
-use Rattle.lin_text.specs.Pieces.{Piece, word, bad, line_end, PlainToken, PlainLine, pieces, AreLines}
-use Rattle.lin_text.specs.Faults.{Stands}
+use Rattle.lin_text.specs.Pieces.{Piece, word, bad, line_end, PlainLine, pieces, AreLines}
+use Rattle.lin_text.specs.Kinds.{session_kind, session_rank}
+use Rattle.lin_text.specs.FirstFaults.{Rules, StandsIn, IsFirst}
+use Rattle.lin_text.specs.Faults.{Stands as QueryStands}
 use Rattle.lin_text.specs.Queries.{begins_word}
 use Rattle.session_text.specs.Words.{executor_word, query_word, end_word, token_at, IsHeader}
 use Rattle.session_text.specs.Sessions.{body_of}
@@ -85,19 +84,6 @@ abbrev pub query_above : Part → List Piece → Option (List PlainLine)
 query_above (query above) ps = if begins_word ps then None else Some above
 query_above part ps = None
 
--- a kind of fault of a query's text, as one of a session's
-abbrev pub session_kind : TextKind → SessionKind
-session_kind texts.Token = Token
-session_kind texts.Syntax = Syntax
-session_kind texts.NumberTooLarge = NumberTooLarge
-session_kind texts.UnknownName = UnknownName
-session_kind texts.NameTwice = NameTwice
-session_kind texts.EmptyRange = EmptyRange
-session_kind texts.TooManyVars = TooManyVars
-session_kind texts.TooManyAtoms = TooManyAtoms
-session_kind texts.TooManyTerms = TooManyTerms
-session_kind texts.NoMemory = NoMemory
-
 -- the token `p` is the 65th word `executor` or the 100,001st word `query`; `front` are the tokens before it on its line
 abbrev pub IsOneTooMany : Seen → List Piece → Piece → SessionKind → Type 0
 IsOneTooMany seen front p kind =
@@ -111,25 +97,22 @@ CantCome part front p kind = ((kind ≡ Token) × (p ≡ bad)) ⊎ ((kind ≡ Sy
 
 -- a fault of a query's text, below these lines of the query
 abbrev pub IsOfQuery : List PlainLine → List Piece → Piece → List Piece → SessionKind → Type 0
-IsOfQuery above front p after kind = (k : TextKind) × (kind ≡ session_kind k) × Stands above front p after k
+IsOfQuery above front p after kind = (k : TextKind) × (kind ≡ session_kind k) × QueryStands above front p after k
 
--- a fault of the kind stands at this place of a line
-pub record StandsInLine (seen : Seen) (line : PlainLine) (kind : SessionKind) (at : ℕ) : Type 0 where
-  pub front : List PlainToken
-  pub token : PlainToken
-  pub after : List PlainToken
-  pub in_line : line.tokens ≡ front ++ token ∷ after
-  pub place : at ≡ token.from
-  pub stands : IsOneTooMany seen (pieces front) token.piece kind
-      ⊎ MatchOption (query_above seen.part (pieces line.tokens)) (CantCome seen.part (pieces front) token.piece kind)
-      (λ above. IsOfQuery above (pieces front) token.piece (pieces after) kind)
+-- a fault of the kind stands in a line of these tokens at the token `p`
+abbrev pub Stands : Seen → List Piece → List Piece → Piece → List Piece → SessionKind → Type 0
+Stands seen ps front p after kind = IsOneTooMany seen front p kind
+    ⊎ MatchOption (query_above seen.part ps) (CantCome seen.part front p kind)
+    (λ above. IsOfQuery above front p after kind)
 
--- a fault of the kind stands at this place in the lines; where these are over and none of them was the end line, at the
--- end of the bytes
-abbrev pub StandsIn : List ℕ → Seen → List PlainLine → SessionKind → ℕ → Type 0
-StandsIn bytes seen [] kind at = (kind ≡ NoEnd) × (at ≡ length bytes) × (seen.part ≢ ended)
-StandsIn bytes seen (line ∷ lines) kind at =
-    StandsInLine seen line kind at ⊎ StandsIn bytes (seen_below seen line) lines kind at
+-- the faults of a session's text below its header; at the end of the text it is one that no end line came
+abbrev pub rules : Rules Seen SessionKind
+rules = record {
+  below = seen_below;
+  stands = Stands;
+  at_end = λ seen kind. (kind ≡ NoEnd) × (seen.part ≢ ended);
+  rank = session_rank;
+}
 
 -- below the header nothing was seen
 abbrev pub nothing_seen : Seen
@@ -144,33 +127,10 @@ pub record IsBadHeader (bytes : List ℕ) (kind : SessionKind) (at : ℕ) : Type
 
 -- a fault of the kind stands at this place of the text, which has these lines below the first
 abbrev pub StandsAt : List ℕ → List PlainLine → SessionKind → ℕ → Type 0
-StandsAt bytes lines kind at = IsBadHeader bytes kind at ⊎ StandsIn bytes nothing_seen lines kind at
-
--- the order of the kinds at one place
-abbrev pub rank : SessionKind → ℕ
-rank BadHeader = 0
-rank TooManyExecutors = 1
-rank TooManyQueries = 2
-rank TooManyVars = 3
-rank TooManyAtoms = 4
-rank TooManyTerms = 5
-rank Token = 6
-rank Syntax = 7
-rank NumberTooLarge = 8
-rank UnknownName = 9
-rank NameTwice = 10
-rank EmptyRange = 11
-rank NoMemory = 12
-rank NoEnd = 13
-
--- of these faults it is the one that is answered: none stands at a place before it, and none that goes before it at its
--- place
-pub record IsFirst (Fault : SessionKind → ℕ → Type 0) (kind : SessionKind) (at : ℕ) : Type 0 where
-  pub stands : Fault kind at
-  pub least : (k : SessionKind) (p : ℕ) → Fault k p → (at < p) ⊎ ((at ≡ p) × (rank kind ≤ rank k))
+StandsAt bytes lines kind at = IsBadHeader bytes kind at ⊎ StandsIn rules bytes nothing_seen lines kind at
 
 -- the fault of a text
 pub record HasFault (bytes : List ℕ) (kind : SessionKind) (place : ℕ) : Type 0 where
   pub lines : List PlainLine
   pub are : AreLines false bytes (body_of bytes) lines
-  pub first : IsFirst (StandsAt bytes lines) kind place
+  pub first : IsFirst session_rank (StandsAt bytes lines) kind place

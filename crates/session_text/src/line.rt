@@ -6,8 +6,8 @@ ghost use Rattle.session_text.specs.Words.{token_at, second_at, IsHeader};
 ghost use Rattle.session_text.specs.Classes.{class_of, refusal_kind};
 
 use crate::class::{Class, Lexeme, is_text, next_lexeme};
-use crate::refusal::{Counts, Fault, refusal};
-use lin_text::{Token, TokenKind, line_below, next_line, next_token};
+use crate::refusal::{Counts, refusal};
+use lin_text::{Fault, SessionKind, Token, TokenKind, line_below, next_line, next_token};
 
 /// A line that isn't skipped, or the end of the input: where it starts, and its first token.
 #[derive(Clone, Copy, Debug)]
@@ -36,7 +36,7 @@ pub fn line_at(bytes: &[u8], at: usize) -> Line
 
 /// The start of the line below, where nothing comes behind the first word of the line. Else the fault of
 /// the second token; the words came so often before it.
-pub fn below_word(bytes: &[u8], line: Line, counts: Counts) -> Result<usize, Fault>
+pub fn below_word(bytes: &[u8], line: Line, counts: Counts) -> Result<usize, Fault<SessionKind>>
     requires start { line.start ≤ length bytes.now }
     requires to { line.first.to ≡ (token_at bytes.now line.start).to }
     requires end { line.first.to ≤ length bytes.now }

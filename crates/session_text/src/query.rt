@@ -11,14 +11,17 @@ ghost use Rattle.session_text.specs.Reading.{IsReadError, seen_with};
 use crate::class::{Class, next_lexeme};
 use crate::laws::texts_are_lawful;
 use crate::line::{below_word, line_at};
-use crate::refusal::{Counts, Fault, ReadError, fault_at, refusal, session_kind};
+use crate::refusal::{Counts, refusal};
 use lin_model::{Condition, MAX_QUERIES, Script};
-use lin_text::{SessionKind, TextKind, lines_are_in_order, read_lines, words_stand_in_no_line};
+use lin_text::{
+    Fault, ReadError, SessionKind, TextKind, fault_at, lines_are_in_order, read_lines,
+    words_stand_in_no_line,
+};
 use std::alloc::Global;
 
 /// A fault of a query's text, as a fault of the session's. Where a token can't come, it may be the word
 /// that comes once too often; the words came so often before the query's lines.
-fn query_fault(bytes: &[u8], fault: lin_text::Fault, counts: Counts) -> Fault
+fn query_fault(bytes: &[u8], fault: Fault<TextKind>, counts: Counts) -> Fault<SessionKind>
     requires { fault.at ≤ length bytes.now }
     ensures kind { result.kind
         ≡ query_refusal fault.kind (class_of (token_at bytes.now fault.at).piece) counts.executors counts.queries }
@@ -26,7 +29,7 @@ fn query_fault(bytes: &[u8], fault: lin_text::Fault, counts: Counts) -> Fault
 {
     match fault.kind {
         TextKind::Syntax => refusal(next_lexeme(bytes, fault.at), counts),
-        kind => fault_at(session_kind(kind), fault.at),
+        kind => fault_at(SessionKind::from(kind), fault.at),
     }
 }
 
@@ -36,7 +39,7 @@ fn read_body(
     bytes: &[u8],
     at: usize,
     counts: Counts,
-) -> Result<(Condition, usize), ReadError>
+) -> Result<(Condition, usize), ReadError<SessionKind>>
     requires { StartsLine bytes.now at }
     ensures read { IfOk result (λ r. Spells false bytes.now at r.0 r.1) }
     ensures starts { IfOk result (λ r. StartsLine bytes.now r.1) }
@@ -46,10 +49,8 @@ fn read_body(
     words_stand_in_no_line();
     match read_lines(alloc, bytes, false, at) {
         Ok(read) => Ok(read),
-        Err(lin_text::ReadError::NoMemory) => Err(ReadError::NoMemory),
-        Err(lin_text::ReadError::Fault(fault)) => {
-            Err(ReadError::Fault(query_fault(bytes, fault, counts)))
-        }
+        Err(ReadError::NoMemory) => Err(ReadError::NoMemory),
+        Err(ReadError::Fault(fault)) => Err(ReadError::Fault(query_fault(bytes, fault, counts))),
     }
 }
 
@@ -60,7 +61,7 @@ fn read_query(
     bytes: &[u8],
     at: usize,
     counts: Counts,
-) -> Result<(Condition, usize), ReadError>
+) -> Result<(Condition, usize), ReadError<SessionKind>>
     requires starts { StartsLine bytes.now at }
     requires begins { BeginsWith query_word bytes.now at }
     requires counts { counts.queries ≤ MAX_QUERIES }
@@ -94,7 +95,7 @@ pub fn read_script(
     bytes: &[u8],
     start: usize,
     counts: Counts,
-) -> Result<(Script, usize), ReadError>
+) -> Result<(Script, usize), ReadError<SessionKind>>
     requires starts { StartsLine bytes.now start }
     requires few { counts.queries ≤ MAX_QUERIES }
     ensures read { IfOk result (λ r. AreQueries bytes.now start r.0 r.1) }

@@ -12,10 +12,11 @@ use crate::class::{Class, next_lexeme};
 use crate::laws::texts_are_lawful;
 use crate::line::{below_word, is_header, line_at};
 use crate::query::{begins_with, read_script};
-use crate::refusal::{Counts, Fault, ReadError, fault_at, refusal};
+use crate::refusal::{Counts, refusal};
 use lin_model::{MAX_EXECUTORS, MAX_QUERIES, Script, Session};
 use lin_text::{
-    SessionFault, SessionKind, column, line_below, line_number, lines_are_in_order, next_line,
+    Fault, ReadError, SessionFault, SessionKind, column, fault_at, line_below, line_number,
+    lines_are_in_order, next_line,
 };
 use std::alloc::Global;
 
@@ -26,7 +27,7 @@ fn read_executor(
     bytes: &[u8],
     at: usize,
     counts: Counts,
-) -> Result<(Script, usize), ReadError>
+) -> Result<(Script, usize), ReadError<SessionKind>>
     requires starts { StartsLine bytes.now at }
     requires begins { BeginsWith executor_word bytes.now at }
     requires executors { counts.executors ≤ MAX_EXECUTORS }
@@ -60,7 +61,11 @@ struct Executors {
 
 /// Reads executors from `start` on, below the header, up to the first line that begins with anything but
 /// the word `executor`.
-fn read_executors(alloc: Global, bytes: &[u8], start: usize) -> Result<Executors, ReadError>
+fn read_executors(
+    alloc: Global,
+    bytes: &[u8],
+    start: usize,
+) -> Result<Executors, ReadError<SessionKind>>
     requires { StartsLine bytes.now start }
     ensures read { IfOk result (λ r. AreExecutors bytes.now start r.scripts.items r.stop) }
     ensures fits { IfOk result (λ r. IsSession r.scripts.items) }
@@ -100,7 +105,7 @@ fn is_end(class: Class) -> bool
 
 /// Reads the end line, which is the first one from `at` on that isn't skipped, and what is left of the
 /// input. The words came so often above it.
-fn read_end(bytes: &[u8], at: usize, counts: Counts) -> Result<(), Fault>
+fn read_end(bytes: &[u8], at: usize, counts: Counts) -> Result<(), Fault<SessionKind>>
     requires starts { StartsLine bytes.now at }
     requires no_executor { ¬ BeginsWith executor_word bytes.now at }
     requires no_query { BeginsWith query_word bytes.now at → counts.executors ≡ 0 }
@@ -120,7 +125,7 @@ fn read_end(bytes: &[u8], at: usize, counts: Counts) -> Result<(), Fault>
 }
 
 /// Reads what comes below the end line: skipped lines alone.
-fn read_rest(bytes: &[u8], at: usize, counts: Counts) -> Result<(), Fault>
+fn read_rest(bytes: &[u8], at: usize, counts: Counts) -> Result<(), Fault<SessionKind>>
     requires { StartsLine bytes.now at }
     ensures read { OnOk result (line_from bytes.now at ≡ length bytes.now) }
     ensures fault { IfErr result (IsFaultFrom (seen_with ended counts) bytes.now at) }
@@ -135,7 +140,7 @@ fn read_rest(bytes: &[u8], at: usize, counts: Counts) -> Result<(), Fault>
 }
 
 /// Reads a whole session, and names a fault by its place among the bytes.
-fn read_whole(alloc: Global, bytes: &[u8]) -> Result<Session, ReadError>
+fn read_whole(alloc: Global, bytes: &[u8]) -> Result<Session, ReadError<SessionKind>>
     ensures read { IfOk result (SpellsSession bytes.now) }
     ensures fault { IfErr result (IsSessionError bytes.now) }
 {

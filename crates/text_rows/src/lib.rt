@@ -7,6 +7,8 @@ mod devices;
 #[cfg(test)]
 mod fixtures;
 #[cfg(test)]
+mod key_atoms;
+#[cfg(test)]
 mod queries;
 #[cfg(test)]
 mod sessions;

@@ -1,4 +1,5 @@
 use Rattle.std.proofs.Common.{false, [], subst}
+use Rattle.lin_text.specs.declared.fault.TextKind.{TextKind}
 use Rattle.lin_text.specs.declared.refusal.ReadError.{ReadError}
 use Rattle.lin_text.specs.Answers.{IsReadError}
 use Rattle.session_text.specs.Words.{token_at}
@@ -12,7 +13,7 @@ use Rattle.session_text.proofs.query.read_body.Goals as goal
 pub query_fault-requires : goal.query_fault-requires
 query_fault-requires c =
     let f = c.in-Err-Fault.fault in
-    let h = subst (λ (x : ReadError). IsReadError false c.args.bytes.now c.args.at x) c.in-Err-Fault.field-0-is
+    let h = subst (λ (x : ReadError TextKind). IsReadError false c.args.bytes.now c.args.at x) c.in-Err-Fault.field-0-is
     (c.in-Err-Fault.ensures {u = tt}).fault in
     fault-within c.lines_are_in_order.ensures c.words_stand_in_no_line.ensures c.args.bytes.now c.args.at f.kind f.at h
     c.args.counts.executors c.args.counts.queries
@@ -21,7 +22,7 @@ pub returns-in-Err-Fault-clause-fault : goal.returns-in-Err-Fault-clause-fault
 returns-in-Err-Fault-clause-fault c =
     let f = c.in-Err-Fault.fault in
     let bytes = c.args.bytes.now in
-    let h = subst (λ (x : ReadError). IsReadError false bytes c.args.at x) c.in-Err-Fault.field-0-is
+    let h = subst (λ (x : ReadError TextKind). IsReadError false bytes c.args.at x) c.in-Err-Fault.field-0-is
     (c.in-Err-Fault.ensures {u = tt}).fault in
     fault_is c.query_fault.result bytes (seen_with (query []) c.args.counts) c.args.at
     (query_refusal f.kind (class_of (token_at bytes f.at).piece) c.args.counts.executors c.args.counts.queries) f.at

@@ -1,13 +1,14 @@
 use Rattle.std.proofs.Common.{◌≡◌, ◌+◌, ℕ, [], refl, sym, subst, ap, ◌∙◌}
 use Rattle.lin_text.specs.declared.fault.SessionKind.TheVariants.{TooManyQueries}
 use Rattle.lin_text.specs.Lines.{line_from, line_below}
-use Rattle.session_text.specs.declared.refusal.Fault.{Fault}
+use Rattle.lin_text.specs.declared.refusal.Fault.{Fault}
+use Rattle.lin_text.specs.declared.refusal.ReadError.TheVariants as errors
+use Rattle.lin_text.specs.declared.fault.SessionKind.{SessionKind}
 use Rattle.session_text.specs.declared.refusal.Counts.{Counts}
 use Rattle.session_text.specs.Words.{token_at, second_at, query_word, IsWordLine}
 use Rattle.session_text.specs.Classes.{class_of, refusal_kind}
 use Rattle.session_text.specs.Faults.{executor, query}
 use Rattle.session_text.specs.Reading.{seen_with}
-use Rattle.session_text.specs.declared.refusal.ReadError.TheVariants as errors
 use Rattle.session_text.proofs.FirstFaults.{Leads}
 use Rattle.session_text.proofs.WordLines.{Leads-query_line}
 use Rattle.session_text.proofs.Wholes.{too_many_queries}
@@ -18,7 +19,7 @@ pub returns-then-counts-eq-MAX_QUERIES-clause-fault : goal.returns-then-counts-e
 returns-then-counts-eq-MAX_QUERIES-clause-fault c =
     fault_is c.fault_at.result c.args.bytes.now (seen_with executor c.args.counts) c.args.at TooManyQueries
     (token_at c.args.bytes.now (line_from c.args.bytes.now c.args.at)).from
-    (ap (λ (f : Fault). f.kind) c.fault_at.ensures) (ap (λ (f : Fault). f.at) c.fault_at.ensures
+    (ap (λ (f : Fault SessionKind). f.kind) c.fault_at.ensures) (ap (λ (f : Fault SessionKind). f.at) c.fault_at.ensures
     ∙ c.line_at-line.ensures.from)
     (too_many_queries c.lines_are_in_order.ensures c.args.bytes.now (seen_with executor c.args.counts) c.args.at
     (λ ps. refl) c.requires.begins c.if-counts-eq-MAX_QUERIES.true)

@@ -1,9 +1,10 @@
 use Rattle.std.proofs.Common.{◌≡◌, ◌+◌, ℕ, sym, subst, ap, ◌∙◌}
 use Rattle.lin_text.specs.declared.fault.SessionKind.TheVariants.{TooManyExecutors}
 use Rattle.lin_text.specs.Lines.{line_from, line_below}
-use Rattle.session_text.specs.declared.refusal.Fault.{Fault}
+use Rattle.lin_text.specs.declared.refusal.Fault.{Fault}
+use Rattle.lin_text.specs.declared.refusal.ReadError.TheVariants as errors
+use Rattle.lin_text.specs.declared.fault.SessionKind.{SessionKind}
 use Rattle.session_text.specs.declared.refusal.Counts.{Counts}
-use Rattle.session_text.specs.declared.refusal.ReadError.TheVariants as errors
 use Rattle.session_text.specs.Words.{token_at, second_at, executor_word, IsWordLine}
 use Rattle.session_text.specs.Classes.{class_of, refusal_kind}
 use Rattle.session_text.specs.Faults.{executor}
@@ -19,7 +20,7 @@ returns-then-counts-eq-MAX_EXECUTORS-clause-fault c =
     fault_is c.fault_at.result c.args.bytes.now
     (seen_with (part_after c.args.counts.executors) c.args.counts) c.args.at TooManyExecutors
     (token_at c.args.bytes.now (line_from c.args.bytes.now c.args.at)).from
-    (ap (λ (f : Fault). f.kind) c.fault_at.ensures) (ap (λ (f : Fault). f.at) c.fault_at.ensures
+    (ap (λ (f : Fault SessionKind). f.kind) c.fault_at.ensures) (ap (λ (f : Fault SessionKind). f.at) c.fault_at.ensures
     ∙ c.line_at-line.ensures.from)
     (too_many_executors c.lines_are_in_order.ensures c.args.bytes.now
     (seen_with (part_after c.args.counts.executors) c.args.counts) c.args.at

@@ -3,8 +3,8 @@ use Rattle.std.proofs.lemmas.Bool.{false≢true}
 use Rattle.lin_text.specs.declared.fault.SessionKind.{SessionKind}
 use Rattle.lin_text.specs.declared.fault.SessionKind.TheVariants.{BadHeader}
 use Rattle.lin_text.specs.Lines.{line_below}
-use Rattle.session_text.specs.declared.refusal.Fault.{Fault}
-use Rattle.session_text.specs.declared.refusal.ReadError.TheVariants as errors
+use Rattle.lin_text.specs.declared.refusal.Fault.{Fault}
+use Rattle.lin_text.specs.declared.refusal.ReadError.TheVariants as errors
 use Rattle.session_text.specs.Words.{token_at, IsHeader}
 use Rattle.session_text.specs.Faults.{Seen, nothing_seen, HasFault}
 use Rattle.session_text.proofs.FirstFaults.{Leads}
@@ -17,10 +17,10 @@ pub returns-then-not-is_header-clause-fault : goal.returns-then-not-is_header-cl
 returns-then-not-is_header-clause-fault c =
     let bytes = c.args.bytes.now in
     let start = c.next_line-first.ensures.start in
-    let place = ap (λ (f : Fault). f.at) c.fault_at.ensures ∙ c.next_lexeme.ensures.from
+    let place = ap (λ (f : Fault SessionKind). f.at) c.fault_at.ensures ∙ c.next_lexeme.ensures.from
     ∙ ap (λ (m : ℕ). (token_at bytes m).from) start in
     subst (λ (k : SessionKind). HasFault bytes k c.fault_at.result.at)
-    (sym (ap (λ (f : Fault). f.kind) c.fault_at.ensures))
+    (sym (ap (λ (f : Fault SessionKind). f.kind) c.fault_at.ensures))
     (subst (λ (m : ℕ). HasFault bytes BadHeader m) (sym place)
     (bad_header c.texts_are_lawful.ensures.in_order bytes
     (λ is. false≢true (sym c.if-not-is_header.true

@@ -10,7 +10,7 @@ returns-clause-added c =
     let same : v.items ≡ c.args.name.now = c.in_ok-from_slice.ensures.items in
     let free : position (bytes_eq v.items) (map bytes old) ≡ None =
     ap (λ (x : List ℕ). position (bytes_eq x) (map bytes old)) same
-    ∙ ap (position (bytes_eq c.args.name.now)) c.self.view_is ∙ c.requires in
+    ∙ ap (position (bytes_eq c.args.name.now)) c.self.view_is ∙ c.requires.free in
     ap (map bytes) c.in_ok-insert.ensures.keys
     ∙ map-insert bytes _ old v (list_any-none bytes (bytes_eq v.items) old free)
     ∙ ap (λ (xs : List (List ℕ)). xs ++ v.items ∷ []) c.self.view_is

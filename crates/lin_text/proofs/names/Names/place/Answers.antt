@@ -1,6 +1,6 @@
 use Rattle.std.proofs.Common.{ap, ◌∙◌, position, bytes_eq, ℕ, Vec, Global}
 use Rattle.lin_text.proofs.NameLemmas.{position-map}
-use Rattle.lin_text.proofs.names.Names.find.Goals as goal
+use Rattle.lin_text.proofs.names.Names.place.Goals as goal
 
 pub returns-clause-place : goal.returns-clause-place
 returns-clause-place c =
