@@ -6,6 +6,7 @@ use Rattle.std.proofs.Math.ListN.{drop_of_length-le}
 use Rattle.lin_model.specs.KeyAtom.{PlainKeyAtom}
 use Rattle.key_tree.specs.declared.branch.Branch.{Branch}
 use Rattle.key_tree.specs.Places.{PlainPlace}
+use Rattle.key_tree.specs.Prints.{gives_of}
 use Rattle.key_tree.specs.Tree.{no_branch}
 use Rattle.key_tree.specs.Growth.{chain_kid, branches_of_chain, places_of_chain, place_before_chain}
 
@@ -123,7 +124,7 @@ branch_from from next (a ∷ atoms) number (suc j) d lt =
 -- each place but the last has one kid, and no number
 pub place_links : (next : ℕ) (atoms : List PlainKeyAtom) (number j : ℕ) (d : PlainPlace) (e : PlainKeyAtom)
     → j + 1 < length atoms → get_or (places_of_chain next atoms number) j d
-    ≡ record { kids = chain_kid (next + (j + 1)) (get_or atoms (j + 1) e) number ∷ []; masks = 0 ∷ []; number = None; below = 0 }
+    ≡ record { kids = chain_kid (next + (j + 1)) (get_or atoms (j + 1) e) number ∷ []; masks = gives_of (get_or atoms (j + 1) e) ∷ []; number = None; below = 0 }
 unfolding places_of_chain
 place_links next [] number j d e lt = absurd (omega (arith, lt))
 place_links next (a ∷ []) number j d e lt = absurd (omega (arith, lt))
@@ -133,9 +134,9 @@ place_links next (a ∷ b ∷ atoms) number (suc j) d e lt =
     let at : j + 1 ≡ suc j = omega arith in
     let more : suc j + 1 ≡ suc (suc j) = omega arith in
     place_links (next + 1) (b ∷ atoms) number j d e (omega arith)
-    ∙ (ap (λ (n : ℕ). record { kids = chain_kid n (get_or (b ∷ atoms) (j + 1) e) number ∷ []; masks = 0 ∷ []; number = None; below = 0 }) same
-    ∙ (ap (λ (i : ℕ). record { kids = chain_kid (next + (suc j + 1)) (get_or (b ∷ atoms) i e) number ∷ []; masks = 0 ∷ []; number = None; below = 0 }) at
-    ∙ ap (λ (i : ℕ). record { kids = chain_kid (next + (suc j + 1)) (get_or (a ∷ b ∷ atoms) i e) number ∷ []; masks = 0 ∷ []; number = None; below = 0 }) (sym more)))
+    ∙ (ap (λ (n : ℕ). record { kids = chain_kid n (get_or (b ∷ atoms) (j + 1) e) number ∷ []; masks = gives_of (get_or (b ∷ atoms) (j + 1) e) ∷ []; number = None; below = 0 }) same
+    ∙ (ap (λ (i : ℕ). record { kids = chain_kid (next + (suc j + 1)) (get_or (b ∷ atoms) i e) number ∷ []; masks = gives_of (get_or (b ∷ atoms) i e) ∷ []; number = None; below = 0 }) at
+    ∙ ap (λ (i : ℕ). record { kids = chain_kid (next + (suc j + 1)) (get_or (a ∷ b ∷ atoms) i e) number ∷ []; masks = gives_of (get_or (a ∷ b ∷ atoms) i e) ∷ []; number = None; below = 0 }) (sym more)))
 
 -- the last has the number, and no kid
 pub place_last : (next : ℕ) (atoms : List PlainKeyAtom) (number j : ℕ) (d : PlainPlace) → j + 1 ≡ length atoms

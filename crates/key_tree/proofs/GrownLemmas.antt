@@ -4,6 +4,7 @@ use Rattle.std.proofs.lemmas.List.{length-set, get_or-set_same, get_or-set_other
 use Rattle.lin_model.specs.KeyAtom.{PlainKeyAtom}
 use Rattle.key_tree.specs.declared.branch.Branch.{Branch}
 use Rattle.key_tree.specs.Places.{PlainPlace, no_place, with_kid}
+use Rattle.key_tree.specs.Prints.{gives_of}
 use Rattle.key_tree.specs.Tree.{PlainTree, IsTree, place_at, branch_to, no_branch}
 use Rattle.key_tree.specs.Growth.{chain_kid, branches_of_chain, places_of_chain}
 use Rattle.key_tree.proofs.ChainLemmas.{length_branches, length_places}
@@ -16,7 +17,7 @@ grown_branches tree front atoms number =
 -- the places with a kid for the first atom at the place where the chain begins, and those of the chain
 abbrev pub grown_places : PlainTree → ℕ → ℕ → PlainKeyAtom → List PlainKeyAtom → ℕ → List PlainPlace
 grown_places tree front at first atoms number =
-    set tree.places front (with_kid at (chain_kid (length tree.places) first number) (place_at tree front))
+    set tree.places front (with_kid at (chain_kid (length tree.places) first number) (gives_of first) (place_at tree front))
     ++ places_of_chain (length tree.places) atoms number
 
 module _ (old : PlainTree) (front : ℕ) (atoms : List PlainKeyAtom) (number : ℕ) (keeps : IsTree old) where
@@ -51,7 +52,7 @@ module _ (old : PlainTree) (front at : ℕ) (first : PlainKeyAtom) (atoms : List
 
   -- the place where it begins, with its kid
   abbrev more : PlainPlace
-  more = with_kid at (chain_kid (length old.places) first number) (place_at old front)
+  more = with_kid at (chain_kid (length old.places) first number) (gives_of first) (place_at old front)
 
   -- the old places with that one
   abbrev changed : List PlainPlace

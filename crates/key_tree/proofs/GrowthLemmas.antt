@@ -613,7 +613,8 @@ module _ (old new : PlainTree) (key atoms : List PlainKeyAtom) (first : PlainKey
         (λ q old_q some_q. least_stays old new key number adds q old_q (g.keeps.least q some_q old_q))
         (λ j new_j _. least_behind j new_j) p lt some;
     masked = λ p some lt. record { atom = g.masked.atoms p some lt; behind = g.masked.behind p some lt };
-    masks = λ p lt. record { counts = (g.masked.kids p lt).counts; have = (g.masked.kids p lt).have };
+    masks = λ p lt.
+        let kids = g.masked.kids p lt in record { counts = kids.counts; have = kids.have; own = kids.own };
     held = subst (λ (hs : List Held). All (λ h. h.place < length new.places) hs) (sym g.held)
         (All-push (λ (h : Held). h.place < length new.places) old.held (record { place = last; number = number })
         (λ k d lt. let before : (get_or old.held k d).place < count = g.keeps.held k d lt in omega (arith, length_new))

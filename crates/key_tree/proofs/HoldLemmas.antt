@@ -132,7 +132,7 @@ module _ (tree : PlainTree) (place number : ℕ) (keeps : IsTree tree) (within :
       (sym (kids_same p))
       (subst (λ (masks : List ℕ). AreMasksOf (holding tree place number) (place_at tree p).kids masks) (sym (masks_same p))
       (masks_stay tree (holding tree place number) (place_at tree p).kids (place_at tree p).masks (keeps.masks p lt)
-      (λ k d _. below_same (get_or (place_at tree p).kids k d).place)))
+      (λ k d _. below_same (get_or (place_at tree p).kids k d).place) (λ k d _. refl)))
 
   -- so it is a tree
   pub holding_is_tree : IsTree (holding tree place number)

@@ -9,6 +9,7 @@ use Rattle.key_tree.specs.declared.front.Front.{Front}
 use Rattle.key_tree.specs.declared.held.Held.{Held}
 use Rattle.key_tree.specs.declared.kid.Kid.{Kid}
 use Rattle.key_tree.specs.Places.{PlainPlace, with_kid}
+use Rattle.key_tree.specs.Prints.{gives_of}
 use Rattle.key_tree.specs.Tree.{PlainTree, IsTree, way_to, place_at, no_branch, pairs_of}
 use Rattle.key_tree.specs.Growth.{IsFront, IsPositionFor, IsChain, MayWiden, AreSameButMasks, AreMasked, chain_kid, branches_of_chain, places_of_chain}
 use Rattle.key_tree.proofs.GrownLemmas.{grown_branches, grown_places}
@@ -17,7 +18,7 @@ use Rattle.key_tree.proofs.WidenStart.{may_widen}
 
 -- the chain of what is left of the key joined the tree
 pub record Joined (old : PlainTree) (key left : List PlainKeyAtom) (front : Front) (next number : ℕ)
-    (more : List Branch) (links : List PlainPlace) (kid : Kid) (held : Held) (branches : List Branch)
+    (more : List Branch) (links : List PlainPlace) (kid : Kid) (gives : ℕ) (held : Held) (branches : List Branch)
     (places : List PlainPlace) : Type 0 where
   pub keeps : IsTree old
   pub is_front : IsFront old key front
@@ -26,13 +27,13 @@ pub record Joined (old : PlainTree) (key left : List PlainKeyAtom) (front : Fron
   pub small : number < 2 ^ 32
   pub left_is : left ≡ drop front.len key
   pub next_is : next ≡ length old.places
-  pub chain : IsChain front.place next left number more links kid held
+  pub chain : IsChain front.place next left number more links kid gives held
   pub branches_are : branches ≡ old.branches ++ more
-  pub places_are : places ≡ set old.places front.place (with_kid front.at kid (place_at old front.place)) ++ links
+  pub places_are : places ≡ set old.places front.place (with_kid front.at kid gives (place_at old front.place)) ++ links
 
 module _ (old : PlainTree) (key left : List PlainKeyAtom) (front : Front) (next number : ℕ)
-    (more : List Branch) (links : List PlainPlace) (kid : Kid) (held : Held) (branches : List Branch)
-    (places : List PlainPlace) (j : Joined old key left front next number more links kid held branches places) where
+    (more : List Branch) (links : List PlainPlace) (kid : Kid) (gives : ℕ) (held : Held) (branches : List Branch)
+    (places : List PlainPlace) (j : Joined old key left front next number more links kid gives held branches places) where
   -- the first atom that is left
   abbrev pub first : PlainKeyAtom
   first = get_or left 0 (no_branch).atom
@@ -79,9 +80,13 @@ module _ (old : PlainTree) (key left : List PlainKeyAtom) (front : Front) (next 
       let links_are : links ≡ places_of_chain (length old.places) left number =
       j.chain.places_are ∙ ap (λ (n : ℕ). places_of_chain n left number) j.next_is in
       j.places_are
-      ∙ (ap (λ (k : Kid). set old.places front.place (with_kid front.at k (place_at old front.place)) ++ links) kid_is
+      ∙ (ap (λ (k : Kid). set old.places front.place (with_kid front.at k gives (place_at old front.place)) ++ links) kid_is
+      ∙ (ap (λ (m : ℕ). set old.places front.place
+      (with_kid front.at (chain_kid (length old.places) first number) m (place_at old front.place)) ++ links)
+      (j.chain.gives_is (no_branch).atom)
       ∙ ap (λ (ps : List PlainPlace). set old.places front.place
-      (with_kid front.at (chain_kid (length old.places) first number) (place_at old front.place)) ++ ps) links_are)
+      (with_kid front.at (chain_kid (length old.places) first number) (gives_of first) (place_at old front.place)) ++ ps)
+      links_are))
 
   -- the last place has the last number
   last_is : held.place + 1 ≡ length old.places + length left
@@ -94,7 +99,7 @@ module _ (old : PlainTree) (key left : List PlainKeyAtom) (front : Front) (next 
       (subst (λ (ps : List PlainPlace). MayWiden
       (grown_branches old front.place left number) ps held.place) (sym places_grown)
       (may_widen old front.place front.at first left held.place number j.keeps j.is_front.within some_left last_is
-      position.within))
+      position.within (get_or_default left 0 (no_branch).atom first some_left)))
 
   -- and then the tree grew
   pub joined_grew : (wide : List PlainPlace) (pairs : List Held) → AreSameButMasks places wide → AreMasked branches wide

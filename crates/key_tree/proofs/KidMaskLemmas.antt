@@ -8,67 +8,79 @@ use Rattle.std.proofs.lemmas.List.Edits.{length-insert, get_or-insert_at, get_or
 use Rattle.std.proofs.lemmas.Nat.Bits.{bit_at-zero}
 use Rattle.key_tree.specs.declared.kid.Kid.{Kid}
 use Rattle.key_tree.specs.Places.{AreKidsWidened}
-use Rattle.key_tree.specs.Prints.{IsWithin}
-use Rattle.key_tree.specs.Tree.{PlainTree, AreMasksOf, place_at}
+use Rattle.lin_model.specs.KeyAtom.{PlainKeyAtom}
+use Rattle.key_tree.specs.Prints.{gives_of, IsWithin}
+use Rattle.key_tree.specs.Tree.{PlainTree, AreMasksOf, place_at, branch_to}
 use Rattle.key_tree.specs.MaskFacts.{within_itself, within_more, within_left, within_right}
 
 -- no kids have no masks
 pub masks_none : (tree : PlainTree) → AreMasksOf tree [] []
-masks_none tree = record { counts = refl; have = λ k d m lt. absurd (omega (arith, lt)) }
+masks_none tree = record {
+  counts = refl;
+  have = λ k d m lt. absurd (omega (arith, lt));
+  own = λ k d m lt. absurd (omega (arith, lt));
+}
 
--- masks are right in another tree where no place that a kid leads to has more behind it there
+-- masks are right in another tree where the branch to each kid's place has the same atom and no place has more behind it
 pub masks_stay : (old new : PlainTree) (kids : List Kid) (masks : List ℕ) → AreMasksOf old kids masks
     → ((k : ℕ) (d : Kid) → k < length kids
     → (place_at new (get_or kids k d).place).below ≡ (place_at old (get_or kids k d).place).below)
+    → ((k : ℕ) (d : Kid) → k < length kids
+    → (branch_to new (get_or kids k d).place).atom ≡ (branch_to old (get_or kids k d).place).atom)
     → AreMasksOf new kids masks
-masks_stay old new kids masks are same = record {
+masks_stay old new kids masks are same atoms = record {
   counts = are.counts;
   have = λ k d m lt. subst (λ (b : ℕ). IsWithin b (get_or masks k m)) (sym (same k d lt)) (are.have k d m lt);
+  own = λ k d m lt. subst (λ (a : PlainKeyAtom). IsWithin (gives_of a) (get_or masks k m)) (sym (atoms k d lt))
+      (are.own k d m lt);
 }
 
-module _ (tree : PlainTree) (kids : List Kid) (masks : List ℕ) (at : ℕ) (kid : Kid) (are : AreMasksOf tree kids masks)
-    (within : at ≤ length kids) (empty : (place_at tree kid.place).below ≡ 0) where
+module _ (tree : PlainTree) (kids : List Kid) (masks : List ℕ) (at : ℕ) (kid : Kid) (mask : ℕ)
+    (are : AreMasksOf tree kids masks) (within : at ≤ length kids) where
   -- the kids with one more
   abbrev more : List Kid
   more = take at kids ++ kid ∷ drop at kids
 
-  -- the masks with an empty one more
+  -- the masks with one more
   abbrev wider : List ℕ
-  wider = take at masks ++ 0 ∷ drop at masks
+  wider = take at masks ++ mask ∷ drop at masks
 
   -- the position is one among the masks too
   fits : at ≤ length masks
   fits = omega (arith, are.counts, within)
 
-  -- each kid's mask is right
-  put_has : (k : ℕ) (d : Kid) (m : ℕ) → k < length more → IsWithin (place_at tree (get_or more k d).place).below (get_or wider k m)
-  put_has k d m lt = elim (cases_lt k at) [
+  -- what holds of each kid and its mask, and of those that are put among them, holds of each afterwards
+  put_all : (P : Kid → ℕ → Type 0)
+      → ((k : ℕ) (d : Kid) (m : ℕ) → k < length kids → P (get_or kids k d) (get_or masks k m)) → P kid mask
+      → (k : ℕ) (d : Kid) (m : ℕ) → k < length more → P (get_or more k d) (get_or wider k m)
+  put_all P olds put k d m lt = elim (cases_lt k at) [
     | inl before ↦
-        subst (λ (x : Kid). IsWithin (place_at tree x.place).below (get_or wider k m))
-        (sym (get_or-insert_below kids at kid d k before within))
-        (subst (λ (b : ℕ). IsWithin (place_at tree (get_or kids k d).place).below b)
-        (sym (get_or-insert_below masks at 0 m k before fits)) (are.have k d m (omega (arith, before, within))))
+        subst (λ (x : Kid). P x (get_or wider k m)) (sym (get_or-insert_below kids at kid d k before within))
+        (subst (λ (b : ℕ). P (get_or kids k d) b) (sym (get_or-insert_below masks at mask m k before fits))
+        (olds k d m (omega (arith, before, within))))
     | inr upto ↦ elim (cases_eq k at) [
-      | inl same ↦ subst (λ (i : ℕ). IsWithin (place_at tree (get_or more i d).place).below (get_or wider i m)) (sym same)
-          (subst (λ (x : Kid). IsWithin (place_at tree x.place).below (get_or wider at m))
-          (sym (get_or-insert_at kids at kid d within))
-          (subst (λ (b : ℕ). IsWithin b (get_or wider at m)) (sym empty) (λ i. omega (arith, bit_at-zero i))))
+      | inl same ↦ subst (λ (i : ℕ). P (get_or more i d) (get_or wider i m)) (sym same)
+          (subst (λ (x : Kid). P x (get_or wider at m)) (sym (get_or-insert_at kids at kid d within))
+          (subst (λ (b : ℕ). P kid b) (sym (get_or-insert_at masks at mask m fits)) put))
       | inr other ↦
           let e : k - 1 + 1 ≡ k = omega arith in
-          subst (λ (i : ℕ). IsWithin (place_at tree (get_or more i d).place).below (get_or wider i m)) e
-          (subst (λ (x : Kid). IsWithin (place_at tree x.place).below (get_or wider (k - 1 + 1) m))
+          subst (λ (i : ℕ). P (get_or more i d) (get_or wider i m)) e
+          (subst (λ (x : Kid). P x (get_or wider (k - 1 + 1) m))
           (sym (get_or-insert_above kids at kid d (k - 1) (omega arith) within))
-          (subst (λ (b : ℕ). IsWithin (place_at tree (get_or kids (k - 1) d).place).below b)
-          (sym (get_or-insert_above masks at 0 m (k - 1) (omega arith) fits))
-          (are.have (k - 1) d m (omega (arith, length-insert kids at kid within, lt)))))
+          (subst (λ (b : ℕ). P (get_or kids (k - 1) d) b)
+          (sym (get_or-insert_above masks at mask m (k - 1) (omega arith) fits))
+          (olds (k - 1) d m (omega (arith, length-insert kids at kid within, lt)))))
     ]
   ]
 
-  -- masks stay right where a kid is put among the others, behind whose place there is nothing
-  pub masks_put : AreMasksOf tree more wider
-  masks_put = record {
-    counts = omega (arith, length-insert kids at kid within, length-insert masks at 0 fits, are.counts);
-    have = put_has;
+  -- masks stay right where a kid is put among the others, behind whose place there is nothing, with what its atom gives
+  pub masks_put : (place_at tree kid.place).below ≡ 0 → IsWithin (gives_of (branch_to tree kid.place).atom) mask
+      → AreMasksOf tree more wider
+  masks_put empty given = record {
+    counts = omega (arith, length-insert kids at kid within, length-insert masks at mask fits, are.counts);
+    have = put_all (λ x b. IsWithin (place_at tree x.place).below b) are.have
+        (subst (λ (n : ℕ). IsWithin n mask) (sym empty) (λ i. omega (arith, bit_at-zero i)));
+    own = put_all (λ x b. IsWithin (gives_of (branch_to tree x.place).atom) b) are.own given;
   }
 
 -- ---- the masks of the kids that lead to one place grow

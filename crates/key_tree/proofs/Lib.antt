@@ -2,6 +2,7 @@ mod ListLemmas
 mod MaskLemmas
 mod PrintLemmas
 mod FormLemmas
+mod RunLemmas
 mod WayLemmas
 mod PlaceLemmas
 mod KidMaskLemmas

@@ -6,13 +6,8 @@ use Rattle.std.specs.Int.RustNames.{bit_or}
 use Rattle.std.proofs.lemmas.Nat.{one_shl}
 use Rattle.std.proofs.lemmas.Nat.Bits.{bit_at_or, same_from_bits}
 use Rattle.std.proofs.lemmas.Bool.{eqb-true, eq-eqb}
-use Rattle.key_tree.specs.Prints.{form_bit, kind_bit, IsWithin}
+use Rattle.key_tree.specs.Prints.{kind_bit, IsWithin}
 use Rattle.key_tree.specs.MaskFacts.{within_right}
-
--- the bit of a form, as the code makes it
-pub form_bit_made : (hash : ℕ) → 1 * 2 ^ (hash % 64) % 2 ^ 64 ≡ form_bit hash
-unfolding form_bit
-form_bit_made hash = one_shl (hash % 64) 64 (omega arith)
 
 -- the bit of a kind of comparison, as the code makes it
 pub kind_bit_made : (hash kind : ℕ) → 1 * 2 ^ ((hash * 37 + kind * 19) % 64) % 2 ^ 64 ≡ kind_bit hash kind

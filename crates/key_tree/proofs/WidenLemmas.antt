@@ -41,6 +41,8 @@ pub record IsWidening (branches : List Branch) (olds news : List PlainPlace) (ne
       → kid_place news p k d ≢ place → IsWithin (mask_at news (kid_place news p k d)) (kid_mask news p k m)
   pub kid_here : (p k : ℕ) (d : Kid) (m : ℕ) → p < length news → k < length (get_or news p no_place).kids
       → kid_place news p k d ≡ place → IsWithin (mask_at news place) (bit_or (kid_mask news p k m) mask)
+  pub own : (p k : ℕ) (d : Kid) (m : ℕ) → p < length news → k < length (get_or news p no_place).kids
+      → IsWithin (gives_of (branch_to (bare branches []) (kid_place news p k d)).atom) (kid_mask news p k m)
 
 -- at the start nothing was gathered
 pub widening_starts : (branches : List Branch) (places : List PlainPlace) (last : ℕ)
@@ -62,6 +64,7 @@ widening_starts branches places last may = record {
       subst (λ (q : ℕ). IsWithin (mask_at places q) (bit_or (kid_mask places p k m) 0)) same
       (within_more (mask_at places (kid_place places p k d)) (kid_mask places p k m) (bit_or (kid_mask places p k m) 0)
       ((may.kids p within).have k d m lt) (within_left (kid_mask places p k m) 0));
+  own = λ p k d m within lt. (may.kids p within).own k d m lt;
 }
 
 -- One place was widened: its mask has its bits and the new ones, and so have those of its kids that lead to one place. All
@@ -199,7 +202,18 @@ module _ (branches : List Branch) (olds news grown : List PlainPlace) (last plac
             (w.kids p k d m within_news was different) (wider_grow news grown up place mask wide widened p k m)
       ]))
 
-  -- and those lack only what was gathered
+  -- each has what its atom gives
+  pub own_more : (p k : ℕ) (d : Kid) (m : ℕ) → p < length grown → k < length (get_or grown p no_place).kids
+      → IsWithin (gives_of (branch_to (bare branches []) (kid_place grown p k d)).atom) (kid_mask grown p k m)
+  own_more p k d m within lt =
+      within_more (gives_of (branch_to (bare branches []) (kid_place grown p k d)).atom) (kid_mask news p k m)
+      (kid_mask grown p k m)
+      (subst (λ (q : ℕ). IsWithin (gives_of (branch_to (bare branches []) q).atom) (kid_mask news p k m))
+      (sym (wider_place news grown up place mask wide widened p k d))
+      (w.own p k d m (omega (arith, widened.places)) (kid_was p k lt)))
+      (wider_grow news grown up place mask wide widened p k m)
+
+  -- and those that lead to the place before lack only what was gathered
   pub kid_here_more : (p k : ℕ) (d : Kid) (m : ℕ) → p < length grown → k < length (get_or grown p no_place).kids
       → kid_place grown p k d ≡ up → IsWithin (mask_at grown up) (bit_or (kid_mask grown p k m) wide)
   kid_here_more p k d m within lt same =
@@ -271,6 +285,7 @@ widening_more branches olds news grown last place mask wide up may w some is wid
           ∙ sym (ap (λ (kids : List Kid). length kids) (wider_kids news grown up place mask wide widened p)));
       kids = kids_more branches olds news grown last place mask wide up may w is older widened;
       kid_here = kid_here_more branches olds news grown last place mask wide up may w is older widened;
+      own = own_more branches olds news grown last place mask wide up may w is older widened;
     }
 
 -- at the root all masks are right
@@ -290,6 +305,7 @@ widening_ends branches olds news last next place mask may w is = record {
           absurd (omega (arith, leads.some, place_is))
       | inr other ↦ w.kids p k d m within lt other
     ];
+    own = λ k d m lt. w.own p k d m within lt;
   };
 }
 

@@ -12,14 +12,16 @@ use Rattle.key_tree.specs.Places.{PlainPlace, no_place}
 use Rattle.key_tree.specs.Prints.{gives_of, IsWithin}
 use Rattle.key_tree.specs.Tree.{PlainTree, IsTree, AreMasksOf, place_at, branch_to, no_branch}
 use Rattle.key_tree.specs.Growth.{bare, IsBehindMasked, IsAtomMasked, AreKidsMasked, LeadsFrom, MayWiden, chain_kid, branches_of_chain}
-use Rattle.key_tree.proofs.ChainLemmas.{branch_first, branch_from, place_links, place_last}
+use Rattle.key_tree.proofs.ChainLemmas.{branch_first, branch_atom, branch_from, place_links, place_last}
 use Rattle.key_tree.proofs.GrownLemmas.{grown_branches, grown_places, branch_stays, branch_comes, length_grown, length_grown_branches, place_stays, place_changes, place_comes}
+use Rattle.key_tree.specs.MaskFacts.{within_itself}
 use Rattle.key_tree.proofs.KidMaskLemmas.{masks_none, masks_stay, masks_put}
 use Rattle.key_tree.proofs.ListLemmas.{All-put}
 
 module _ (old : PlainTree) (front at : ℕ) (first : PlainKeyAtom) (atoms : List PlainKeyAtom) (last number : ℕ)
     (keeps : IsTree old) (within : front < length old.places) (some : 0 < length atoms)
-    (last_is : last + 1 ≡ length old.places + length atoms) (fits : at ≤ length (place_at old front).kids) where
+    (last_is : last + 1 ≡ length old.places + length atoms) (fits : at ≤ length (place_at old front).kids)
+    (first_is : first ≡ get_or atoms 0 first) where
   -- how many places there were
   abbrev count : ℕ
   count = length old.places
@@ -127,10 +129,19 @@ module _ (old : PlainTree) (front at : ℕ) (first : PlainKeyAtom) (atoms : List
   behind_old p lt k d those =
       mask_old (get_or (place_at old p).kids k d).place ((keeps.kids p lt).kids_are k d those).tells.within
 
+  -- and the atom of its branch
+  atom_old : (p : ℕ) → p < count → (k : ℕ) (d : Kid) → k < length (place_at old p).kids
+      → (branch_to (bare branches places) (get_or (place_at old p).kids k d).place).atom
+      ≡ (branch_to old (get_or (place_at old p).kids k d).place).atom
+  atom_old p lt k d those =
+      ap (λ (b : Branch). b.atom)
+      (branch_old (get_or (place_at old p).kids k d).place ((keeps.kids p lt).kids_are k d those).tells.within)
+
   -- so the masks that were beside kids are right
   masks_old : (p : ℕ) → p < count → AreMasksOf (bare branches places) (place_at old p).kids (place_at old p).masks
   masks_old p lt =
       masks_stay old (bare branches places) (place_at old p).kids (place_at old p).masks (keeps.masks p lt) (behind_old p lt)
+      (atom_old p lt)
 
   -- the kid for the first atom
   abbrev kid : Kid
@@ -142,14 +153,30 @@ module _ (old : PlainTree) (front at : ℕ) (first : PlainKeyAtom) (atoms : List
       let e : count + 0 ≡ count = omega arith in
       subst (λ (p : ℕ). (place_at (bare branches places) p).below ≡ 0) e (mask_new 0 some)
 
+  -- the mask beside a new kid has what its atom gives
+  gives_new : (j : ℕ) → j < length atoms
+      → IsWithin (gives_of (branch_to (bare branches places) (count + j)).atom) (gives_of (get_or atoms j first))
+  gives_new j lt =
+      subst (λ (a : PlainKeyAtom). IsWithin (gives_of a) (gives_of (get_or atoms j first)))
+      (sym (ap (λ (b : Branch). b.atom) (branch_new j) ∙ branch_atom front count atoms number j no_branch first lt))
+      (within_itself (gives_of (get_or atoms j first)))
+
+  -- so has that beside the first
+  kid_gives : IsWithin (gives_of (branch_to (bare branches places) count).atom) (gives_of first)
+  kid_gives =
+      let e : count + 0 ≡ count = omega arith in
+      subst (λ (p : ℕ). IsWithin (gives_of (branch_to (bare branches places) p).atom) (gives_of first)) e
+      (subst (λ (a : PlainKeyAtom). IsWithin (gives_of (branch_to (bare branches places) (count + 0)).atom) (gives_of a))
+      (sym first_is) (gives_new 0 some))
+
   -- those of old places are right, also where the kid was put among the others
   kids_old : (p : ℕ) → p < count → AreKidsMasked (bare branches places) p
   kids_old p lt = elim (cases_eq p front) [
     | inl same ↦ subst (λ (q : ℕ). AreKidsMasked (bare branches places) q) (sym same)
         (subst (λ (q : PlainPlace). AreMasksOf (bare branches places) q.kids q.masks)
         (sym (place_changes old front at first atoms number within))
-        (masks_put (bare branches places) (place_at old front).kids (place_at old front).masks at kid
-        (masks_old front within) fits kid_empty))
+        (masks_put (bare branches places) (place_at old front).kids (place_at old front).masks at kid (gives_of first)
+        (masks_old front within) fits kid_empty kid_gives))
     | inr other ↦ subst (λ (q : PlainPlace). AreMasksOf (bare branches places) q.kids q.masks)
         (sym (place_stays old front at first atoms number within p lt other)) (masks_old p lt)
   ]
@@ -160,7 +187,8 @@ module _ (old : PlainTree) (front at : ℕ) (first : PlainKeyAtom) (atoms : List
     | inl more ↦ subst (λ (q : PlainPlace). AreMasksOf (bare branches places) q.kids q.masks)
         (sym (place_comes old front at first atoms number within j ∙ place_links count atoms number j no_place first more))
         (masks_put (bare branches places) [] [] 0 (chain_kid (count + (j + 1)) (get_or atoms (j + 1) first) number)
-        (masks_none (bare branches places)) (omega arith) (mask_new (j + 1) more))
+        (gives_of (get_or atoms (j + 1) first)) (masks_none (bare branches places)) (omega arith) (mask_new (j + 1) more)
+        (gives_new (j + 1) more))
     | inr end ↦ subst (λ (q : PlainPlace). AreMasksOf (bare branches places) q.kids q.masks)
         (sym (place_comes old front at first atoms number within j ∙ place_last count atoms number j no_place (omega arith)))
         (masks_none (bare branches places))

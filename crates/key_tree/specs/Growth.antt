@@ -46,7 +46,7 @@ branches_of_chain from next (a ∷ atoms) number =
 abbrev pub place_before_chain : ℕ → List PlainKeyAtom → ℕ → PlainPlace
 place_before_chain next [] number = record { kids = []; masks = []; number = Some number; below = 0 }
 place_before_chain next (a ∷ atoms) number =
-    record { kids = chain_kid next a number ∷ []; masks = 0 ∷ []; number = None; below = 0 }
+    record { kids = chain_kid next a number ∷ []; masks = gives_of a ∷ []; number = None; below = 0 }
 
 -- the places to which they lead
 unfoldable pub places_of_chain : ℕ → List PlainKeyAtom → ℕ → List PlainPlace
@@ -56,10 +56,11 @@ places_of_chain next (a ∷ atoms) number =
 
 -- a chain from a place, of places from `next` on, behind the last of which a key comes to be held
 pub record IsChain (from next : ℕ) (atoms : List PlainKeyAtom) (number : ℕ) (branches : List Branch)
-    (places : List PlainPlace) (kid : Kid) (held : Held) : Type 0 where
+    (places : List PlainPlace) (kid : Kid) (gives : ℕ) (held : Held) : Type 0 where
   pub branches_are : branches ≡ branches_of_chain from next atoms number
   pub places_are : places ≡ places_of_chain next atoms number
   pub kid_is : (d : PlainKeyAtom) → kid ≡ chain_kid next (slice_index_or atoms 0 d) number
+  pub gives_is : (d : PlainKeyAtom) → gives ≡ gives_of (slice_index_or atoms 0 d)
   pub last_is : held.place + 1 ≡ next + length atoms
   pub few : next + length atoms ≤ 2 ^ 32
   pub number_is : held.number ≡ number
@@ -78,7 +79,7 @@ abbrev pub IsAtomMasked : PlainTree → ℕ → Type 0
 IsAtomMasked tree place =
     IsWithin (gives_of (branch_to tree place).atom) (place_at tree (branch_to tree place).from).below
 
--- each kid's mask has all of the mask of its place
+-- each kid's mask has all that its atom gives, and all of the mask of its place
 abbrev pub AreKidsMasked : PlainTree → ℕ → Type 0
 AreKidsMasked tree place = AreMasksOf tree (place_at tree place).kids (place_at tree place).masks
 

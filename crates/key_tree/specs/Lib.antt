@@ -3,6 +3,7 @@ pub mod MaskFacts
 pub mod Places
 pub mod Tree
 pub mod Held
+pub mod Runs
 pub mod Asked
 pub mod Walks
 pub mod Growth

@@ -4,9 +4,9 @@ use Rattle.std.specs.Int.RustNames.{bit_or}
 use Rattle.key_tree.specs.declared.kid.Kid.{Kid}
 use Rattle.key_tree.specs.Prints.{IsWithin}
 
--- a place: the branches that begin there, in the order of their atoms; beside each a mask of all that the atoms behind the
--- place that it leads to may imply; the first number that was held there, if any; and a mask of all that the atoms behind
--- it may imply
+-- a place: the branches that begin there, in the order of their atoms; beside each a mask of all that its atom and those
+-- behind the place that it leads to may imply; the first number that was held there, if any; and a mask of all that the
+-- atoms behind it may imply
 pub record PlainPlace : Type 0 where
   pub kids : List Kid
   pub masks : List ℕ
@@ -17,12 +17,12 @@ pub record PlainPlace : Type 0 where
 abbrev pub no_place : PlainPlace
 no_place = record { kids = []; masks = []; number = None; below = 0 }
 
--- the place with a kid put at this position, behind whose place nothing is yet
-abbrev pub with_kid : ℕ → Kid → PlainPlace → PlainPlace
-with_kid at kid place =
+-- the place with a kid put at this position and this mask beside it
+abbrev pub with_kid : ℕ → Kid → ℕ → PlainPlace → PlainPlace
+with_kid at kid mask place =
     record {
       kids = take at place.kids ++ kid ∷ drop at place.kids;
-      masks = take at place.masks ++ 0 ∷ drop at place.masks;
+      masks = take at place.masks ++ mask ∷ drop at place.masks;
       number = place.number;
       below = place.below;
     }

@@ -21,11 +21,7 @@ hash_from hash (t ∷ ts) = hash_from (with_term hash t) ts
 unfoldable pub hash_of : List FormTerm → ℕ
 hash_of form = hash_from 0 form
 
--- a mask with one bit: of atoms of a form with this hash, whatever their comparison
-unfoldable pub form_bit : ℕ → ℕ
-form_bit hash = 2 ^ (hash % 64)
-
--- of those whose comparison has this number
+-- a mask with one bit: of atoms of a form with this hash, whose comparison has this number
 unfoldable pub kind_bit : ℕ → ℕ → ℕ
 kind_bit hash kind = 2 ^ ((hash * 37 + kind * 19) % 64)
 

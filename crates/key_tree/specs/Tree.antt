@@ -96,12 +96,14 @@ pub record IsMasked (tree : PlainTree) (place : ℕ) : Type 0 where
   pub atom : IsWithin (gives_of (branch_to tree place).atom) (place_at tree (branch_to tree place).from).below
   pub behind : IsWithin (place_at tree place).below (place_at tree (branch_to tree place).from).below
 
--- The masks of the kids of a place: one for each kid, which has all of the mask of the place that the kid leads to. So a
--- walk can tell that nothing behind that place counts before it looks at it.
+-- The masks of the kids of a place: one for each kid, which has all that the atom of its branch gives, and all of the mask
+-- of the place that it leads to. So a walk can tell that nothing there counts before it looks at the branch or the place.
 pub record AreMasksOf (tree : PlainTree) (kids : List Kid) (masks : List ℕ) : Type 0 where
   pub counts : length masks ≡ length kids
   pub have : (k : ℕ) (d : Kid) (m : ℕ) → k < length kids
       → IsWithin (place_at tree (slice_index_or kids k d).place).below (slice_index_or masks k m)
+  pub own : (k : ℕ) (d : Kid) (m : ℕ) → k < length kids
+      → IsWithin (gives_of (branch_to tree (slice_index_or kids k d).place).atom) (slice_index_or masks k m)
 
 -- What a tree keeps. Each place but the root has one branch, from an older place, whose kid it is; so each place has a way
 -- of its own. There are no more places than numbers of 32 bits.

@@ -1,21 +1,24 @@
 //! What is asked.
-ghost use Rattle.std.specs.Prelude.{◌≡◌, ◌<◌, ◌≤◌, length, map, All, IsTrue, slice_index_or};
+ghost use Rattle.std.specs.Prelude.{◌≡◌, ◌<◌, ◌≤◌, ℕ, length, map, All, IsTrue, slice_index_or};
 ghost use Rattle.lin_model.specs.Key.{IsKey};
-ghost use Rattle.key_tree.specs.Prints.{hash_of, form_bit as bit_of_form, IsWithin};
-ghost use Rattle.key_tree.specs.Asked.{atom_hash, print_of, no_atom};
+ghost use Rattle.key_tree.specs.Prints.{hash_of, needs_of, IsWithin};
+ghost use Rattle.key_tree.specs.Asked.{atom_hash, no_atom};
+ghost use Rattle.key_tree.specs.Runs.{IsRunOf};
 
-use crate::mask::{form_bit, hash_of as form_hash, is_within};
-use crate::print::Print;
+use crate::mask::{hash_of as form_hash, needs_of as atom_needs};
+use crate::runs::{Run, Runs};
 use arrayvec::ArrayVec;
 use lin_model::{Key, KeyAtom};
 use std::marker::Model;
 
-/// A key that is looked up, the hashes of its forms and a mask of them, which are made once for all walks.
+/// A key that is looked up, with what is made once for all walks: the hashes of its forms, where the atoms of one form
+/// stand, and what all atoms need.
 #[derive(Drop)]
 pub struct Asked<'a> {
     key: &'a Key,
     hashes: ArrayVec<u32, 384>,
-    forms: u64,
+    runs: Runs,
+    needs: u64,
 }
 
 impl<'a> Model for Asked<'a> {
@@ -27,7 +30,7 @@ impl<'a> Model for Asked<'a> {
 
     ghost view = { λ asked. asked.key.now };
 
-    ghost invariant = { λ asked. IsAsked asked.key.now asked.hashes.items asked.forms };
+    ghost invariant = { λ asked. IsAsked asked.key.now asked.hashes.items asked.runs asked.needs };
 }
 
 impl<'a> Asked<'a> {
@@ -39,30 +42,14 @@ impl<'a> Asked<'a> {
         for atom in key.atoms() {
             hashes.push(form_hash(atom.form()));
         }
-        let forms = forms_of(&hashes);
-        Asked { key, hashes, forms }
-    }
-
-    /// The atoms that are asked, at most 384, in their order.
-    pub fn atoms(&self) -> &[KeyAtom]
-        ensures atoms { result.now ≡ self.now }
-        ensures key { IsKey self.now }
-    {
-        self.key.atoms()
-    }
-
-    /// The hash of the form of each atom.
-    pub fn hashes(&self) -> &[u32]
-        ensures { result.now ≡ map atom_hash self.now }
-    {
-        &self.hashes
-    }
-
-    /// Whether an atom of a form with this hash may be asked. The answer is no only where none is.
-    pub fn has_form(&self, hash: u32) -> bool
-        ensures { All (λ a. hash_of a.form ≡ hash → IsTrue result) self.now }
-    {
-        is_within(form_bit(hash), self.forms)
+        let runs = Runs::of(&hashes);
+        let needs = needs_together(key.atoms(), &hashes);
+        Asked {
+            key,
+            hashes,
+            runs,
+            needs,
+        }
     }
 
     /// The key itself.
@@ -72,10 +59,11 @@ impl<'a> Asked<'a> {
         self.key
     }
 
-    /// How many atoms are asked.
+    /// How many atoms are asked, at most 384.
     pub fn count(&self) -> u16
         ensures count { result ≡ length self.now }
         ensures few { result ≤ 384 }
+        ensures key { IsKey self.now }
     {
         self.key.atoms().len() as u16
     }
@@ -96,24 +84,46 @@ impl<'a> Asked<'a> {
         self.hashes[usize::from(place)]
     }
 
-    /// Its print.
-    pub fn print(&self, place: u16) -> Print
+    /// A mask that is within the mask of each atom that implies it.
+    pub fn needs(&self, place: u16) -> u64
         requires { place < length self.now }
-        ensures print { result ≡ print_of (slice_index_or self.now place no_atom) }
+        ensures { result ≡ needs_of (slice_index_or self.now place no_atom) }
+    {
+        atom_needs(self.atom(place), self.hash(place))
+    }
+
+    /// A mask that is within each that has what every atom needs.
+    pub fn all_needs(&self) -> u64
+        ensures { (mask : ℕ) → All (λ a. IsWithin (needs_of a) mask) self.now → IsWithin result mask }
+    {
+        self.needs
+    }
+
+    /// The places among which all atoms of forms with this hash stand.
+    pub fn run(&self, hash: u32) -> Run
+        ensures run { IsRunOf self.now hash result }
         ensures few { length self.now ≤ 384 }
     {
-        let hash = self.hashes[usize::from(place)];
-        Print::of(self.atom(place), hash)
+        self.runs.run(hash)
+    }
+
+    /// Whether an atom of a form with this hash may be asked. The answer is no only where none is.
+    pub fn has_form(&self, hash: u32) -> bool
+        ensures { All (λ a. hash_of a.form ≡ hash → IsTrue result) self.now }
+    {
+        let run = self.run(hash);
+        run.first < run.end
     }
 }
 
-/// The bits of the forms with these hashes.
-fn forms_of(hashes: &[u32]) -> u64
-    ensures { All (λ hash. IsWithin (bit_of_form hash) result) hashes.now }
+/// What all of these atoms need, whose forms have these hashes.
+fn needs_together(atoms: &[KeyAtom], hashes: &[u32]) -> u64
+    requires { hashes.now ≡ map atom_hash atoms.now }
+    ensures { (mask : ℕ) → All (λ a. IsWithin (needs_of a) mask) atoms.now → IsWithin result mask }
 {
-    let mut forms = 0;
-    for hash in hashes {
-        forms |= form_bit(*hash);
+    let mut needs = 0;
+    for (place, atom) in atoms.iter().enumerate() {
+        needs |= atom_needs(atom, hashes[place]);
     }
-    forms
+    needs
 }

@@ -11,7 +11,7 @@ ghost use Rattle.key_tree.specs.Growth.{
 use crate::branch::Branch;
 use crate::held::Held;
 use crate::kid::Kid;
-use crate::mask::hash_of;
+use crate::mask::{gives_of, hash_of};
 use crate::place::Place;
 use lin_model::KeyAtom;
 use outside::NoMemory;
@@ -26,6 +26,8 @@ pub(crate) struct Chain {
     pub(crate) places: Vec<Place>,
     /// The first branch, as the place sees it where the chain begins.
     pub(crate) kid: Kid,
+    /// What its atom gives.
+    pub(crate) gives: u64,
     /// What is held at the last place.
     pub(crate) held: Held,
 }
@@ -42,7 +44,7 @@ pub(crate) fn chain_behind(
     requires some { 0 < length atoms.now }
     requires few { length atoms.now < 2 ^ 62 }
     ensures { IfOk result (λ chain.
-        IsChain from (others + 1) atoms.now number chain.branches.items chain.places.items chain.kid chain.held) }
+        IsChain from (others + 1) atoms.now number chain.branches.items chain.places.items chain.kid chain.gives chain.held) }
 {
     let behind = number_behind(others, atoms.len())?;
     let next = others as u32 + 1;
@@ -50,6 +52,7 @@ pub(crate) fn chain_behind(
         branches: chain_branches(alloc, from, next, atoms, number)?,
         places: chain_places(alloc, next, atoms, number)?,
         kid: kid_of(next, &atoms[0], number),
+        gives: gives_of(&atoms[0]),
         held: Held {
             place: behind - 1,
             number,
@@ -129,7 +132,7 @@ fn place_before(alloc: Global, next: u32, atoms: &[KeyAtom], number: u32) -> Res
 {
     let mut place = Place::new(alloc);
     match atoms.first() {
-        Some(atom) => place.add(0, kid_of(next, atom, number))?,
+        Some(atom) => place.add(0, kid_of(next, atom, number), gives_of(atom))?,
         None => place.hold(number),
     }
     Ok(place)

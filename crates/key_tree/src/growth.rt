@@ -42,7 +42,7 @@ pub(crate) fn join_chain(
     ensures branches { OnOk result (branches.new.items ≡ branches.old.items ++ chain.branches.items) }
     ensures places { OnOk result (root.new ∷ others.new.items
         ≡ set (root.old ∷ others.old.items) front.place
-        (with_kid front.at chain.kid (slice_index_or (root.old ∷ others.old.items) front.place no_place))
+        (with_kid front.at chain.kid chain.gives (slice_index_or (root.old ∷ others.old.items) front.place no_place))
         ++ chain.places.items) }
     ensures held { OnOk result (held.new.items ≡ held.old.items ++ chain.held ∷ []) }
     ensures unchanged { OnErr result ((branches.new.items ≡ branches.old.items) × (root.new ≡ root.old)
@@ -52,12 +52,13 @@ pub(crate) fn join_chain(
         branches: mut more_branches,
         places: mut more_places,
         kid,
+        gives,
         held: last,
     } = chain;
     branches.reserve(more_branches.len())?;
     others.reserve(more_places.len())?;
     held.reserve(1)?;
-    add_kid(root, others, front.place, front.at, kid)?;
+    add_kid(root, others, front.place, front.at, kid, gives)?;
     append_reserved(branches, &mut more_branches);
     append_reserved(others, &mut more_places);
     held.push_reserved(last);
@@ -73,27 +74,28 @@ fn append_reserved<T: Drop>(list: &mut Vec<T>, more: &mut Vec<T>)
     prove!(appended.is_ok());
 }
 
-/// Puts a kid at this position of a place.
+/// Puts a kid at this position of a place, with this mask beside it.
 fn add_kid(
     root: &mut Place,
     others: &mut Vec<Place>,
     place: u32,
     at: usize,
     kid: Kid,
+    mask: u64,
 ) -> Result<(), NoMemory>
     requires within { place < length (root.old ∷ others.old.items) }
     requires at { at ≤ length (slice_index_or (root.old ∷ others.old.items) place no_place).kids }
     requires masks { length (slice_index_or (root.old ∷ others.old.items) place no_place).masks
         ≡ length (slice_index_or (root.old ∷ others.old.items) place no_place).kids }
     ensures added { OnOk result (root.new ∷ others.new.items
-        ≡ set (root.old ∷ others.old.items) place (with_kid at kid (slice_index_or (root.old ∷ others.old.items) place no_place))) }
+        ≡ set (root.old ∷ others.old.items) place (with_kid at kid mask (slice_index_or (root.old ∷ others.old.items) place no_place))) }
     ensures unchanged { OnErr result ((root.new ≡ root.old) × (others.new.items ≡ others.old.items)) }
     ensures room { vec_capacity others.new ≡ vec_capacity others.old }
 {
     if place == 0 {
-        return root.add(at, kid);
+        return root.add(at, kid, mask);
     }
-    others[place as usize - 1].add(at, kid)
+    others[place as usize - 1].add(at, kid, mask)
 }
 
 /// Holds a number at a place, unless one is held there already.

@@ -12,18 +12,15 @@ mod laws;
 mod mask;
 mod numbers;
 mod place;
-mod print;
+mod runs;
 mod tree;
 
 pub use asked::Asked;
-pub use branch::Branch;
-pub use held::Held;
 pub use kid::Kid;
 pub use laws::{
     masks_are_right, prefixes_are_counted, prints_are_right, visits_go_on, walks_go_on,
 };
-pub use mask::{form_bit, is_within};
+pub use mask::is_within;
 pub use numbers::{ABOVE_ALL, lesser, number_of};
-pub use place::Place;
-pub use print::Print;
+pub use runs::Run;
 pub use tree::KeyTree;

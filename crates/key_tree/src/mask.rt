@@ -5,14 +5,14 @@ ghost use Rattle.key_tree.specs.Prints.{
   hash_of as form_hash,
   hash_from,
   with_term as term_hash,
-  form_bit as bit_of_form,
   kind_bit as bit_of_kind,
   needs_bit as bit_needed,
   gives_bits,
-  needs_of,
+  needs_of as atom_needs,
   gives_of as bits_given,
   IsWithin,
 };
+ghost use Rattle.key_tree.specs.Asked.{atom_hash};
 
 use lin_model::{Form, FormTerm, KeyAtom, Op};
 
@@ -30,13 +30,6 @@ pub fn is_within(part: u64, whole: u64) -> bool
     ensures { IsTrue result ↔ IsWithin part whole }
 {
     whole | part == whole
-}
-
-/// The bit of the forms with this hash.
-pub fn form_bit(hash: u32) -> u64
-    ensures { result ≡ bit_of_form hash }
-{
-    1 << (hash % 64)
 }
 
 /// The hash of a form, below 2^20.
@@ -77,9 +70,18 @@ fn kind_bit(hash: u32, kind: u32) -> u64
     1 << ((hash * 37 + kind * 19) % 64)
 }
 
+/// What has to be in the mask of each atom that implies this one, whose form has this hash.
+#[tactic(auto, unfolding(crate::specs::Prints::needs_of))]
+pub(crate) fn needs_of(atom: &KeyAtom, hash: u32) -> u64
+    requires { hash ≡ atom_hash atom.now }
+    ensures { result ≡ atom_needs atom.now }
+{
+    needs_bit(hash, atom.op())
+}
+
 /// The bit that has to be in the mask of each atom that implies one of this hash and comparison.
 #[tactic(auto, unfolding(crate::specs::Prints::needs_bit))]
-pub(crate) fn needs_bit(hash: u32, op: Op) -> u64
+fn needs_bit(hash: u32, op: Op) -> u64
     requires { hash < 2 ^ 20 }
     ensures { result ≡ bit_needed hash op }
 {

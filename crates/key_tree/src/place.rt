@@ -50,7 +50,7 @@ impl Place {
         &self.kids
     }
 
-    /// Beside each branch a mask that has all that the atoms behind its place may imply.
+    /// Beside each branch a mask that has all that its atom and those behind its place may imply.
     pub(crate) fn masks(&self) -> &[u64]
         ensures { result.now ≡ self.now.masks }
     {
@@ -71,16 +71,16 @@ impl Place {
         self.below
     }
 
-    /// Puts a branch at this position, to a place behind which there is nothing yet.
-    pub(crate) fn add(&mut self, at: usize, kid: Kid) -> Result<(), NoMemory>
+    /// Puts a branch at this position, to a place behind which there is nothing yet. The mask has what its atom gives.
+    pub(crate) fn add(&mut self, at: usize, kid: Kid, mask: u64) -> Result<(), NoMemory>
         requires kids { at ≤ length self.old.kids }
         requires masks { length self.old.masks ≡ length self.old.kids }
-        ensures added { OnOk result (self.new ≡ with_kid at kid self.old) }
+        ensures added { OnOk result (self.new ≡ with_kid at kid mask self.old) }
         ensures unchanged { OnErr result (self.new ≡ self.old) }
     {
         self.masks.reserve(1)?;
         self.kids.insert(at, kid)?;
-        insert_reserved(&mut self.masks, at, 0);
+        insert_reserved(&mut self.masks, at, mask);
         Ok(())
     }
 

@@ -102,7 +102,8 @@ impl KeyTree {
         self.place(place).kids()
     }
 
-    /// Beside each of its branches a mask that has all of the mask of the place that the branch leads to.
+    /// Beside each of its branches a mask that has all that its atom may imply, and all of the mask of the place that it
+    /// leads to.
     pub fn masks(&self, place: u32) -> &[u64]
         requires { place < length self.now.places }
         ensures masks { result.now ≡ (place_at self.now place).masks }

@@ -2,7 +2,7 @@
 ghost use Rattle.std.specs.Prelude.{◌≡◌, ◌⊎◌, ℕ, ◌+◌, ◌*◌, ◌<◌, ◌≤◌, false, ◌∷◌, length};
 ghost use Rattle.atom_implies.specs.Implies.{Covers};
 ghost use Rattle.key_tree.specs.Held.{IsLeastOf};
-ghost use Rattle.key_tree.specs.Prints.{IsWithin};
+ghost use Rattle.key_tree.specs.Prints.{gives_of, IsWithin};
 ghost use Rattle.key_tree.specs.Tree.{TellsOfBranch, IsTree, Holds, branch_to, place_at, pairs_of};
 ghost use Rattle.key_tree.specs.Walks.{Meets, covering, PassesBehind, IsLeastFound, IsLeastSoFar};
 ghost use Rattle.key_tree.specs.Walks.{IsAtOrBehind, IsBehind, Visits};
@@ -28,9 +28,7 @@ pub(crate) fn first_of<L: Ledger>(
 {
     visits_go_on();
     let wanted = Wanted::all(asked);
-    let root = tree.root();
-    let mask = tree.below(root);
-    number_of(enter(tree, root, mask, &wanted, own_number(tree, asked), steps))
+    number_of(enter(tree, tree.root(), &wanted, own_number(tree, asked), steps))
 }
 
 /// The number under which the very key is held that is asked, or else one above all numbers.
@@ -68,7 +66,8 @@ fn walk<L: Ledger>(
     found
 }
 
-/// The same of a branch, whose atom may cover some of what is wanted. The mask is that beside the kid.
+/// The same of a branch, whose atom may cover some of what is wanted. The mask is that beside the kid: most branches are
+/// passed over by it, or by the least number behind them, so nothing else of them is read.
 #[cycle(walking)]
 fn look<L: Ledger>(
     tree: &KeyTree,
@@ -79,7 +78,8 @@ fn look<L: Ledger>(
     steps: &mut Steps<L>,
 ) -> u64
     requires tells { TellsOfBranch tree.now kid.now }
-    requires mask { IsWithin (place_at tree.now kid.now.place).below mask }
+    requires own { IsWithin (gives_of (branch_to tree.now kid.now.place).atom) mask }
+    requires behind { IsWithin (place_at tree.now kid.now.place).below mask }
     ensures found { IsLeastFound tree.now kid.now.place
         (λ rest. Covers ((branch_to tree.now kid.now.place).atom ∷ rest) wanted.now) best result }
     ensures cost { (each : ℕ) → length wanted.now ≤ each
@@ -87,56 +87,65 @@ fn look<L: Ledger>(
 {
     prints_are_right();
     visits_go_on();
+    if !may_lead(tree, kid, mask, wanted) {
+        return best;
+    }
     let atom = tree.atom(kid.place);
     if u64::from(kid.least) >= best {
         return best;
     }
     if !wanted.has_form(kid.hash) {
-        return enter(tree, kid.place, mask, wanted, best, steps);
+        return enter(tree, kid.place, wanted, best, steps);
     }
-    match wanted.without(atom, kid.hash, steps) {
-        None => enter(tree, kid.place, mask, wanted, best, steps),
-        Some(left) => {
-            if left.is_empty() {
-                return u64::from(kid.least);
-            }
-            enter(tree, kid.place, mask, &left, best, steps)
-        }
+    let left = wanted.without(atom, kid.hash, steps);
+    if left.is_empty() {
+        return u64::from(kid.least);
     }
+    enter(tree, kid.place, &left, best, steps)
 }
 
-/// The same of a place, which isn't looked at where this mask, that has all of the place's own, lacks what is wanted.
+/// The same of a place, behind which nothing is looked at where its mask lacks what is wanted.
 #[cycle(walking)]
 fn enter<L: Ledger>(
     tree: &KeyTree,
     place: u32,
-    mask: u64,
     wanted: &Wanted,
     best: u64,
     steps: &mut Steps<L>,
 ) -> u64
-    requires place { place < length tree.now.places }
-    requires mask { IsWithin (place_at tree.now place).below mask }
+    requires { place < length tree.now.places }
     ensures found { IsLeastFound tree.now place (λ rest. Covers rest wanted.now) best result }
     ensures cost { (each : ℕ) → length wanted.now ≤ each → Visits (IsBehind tree.now place) each steps.old steps.new }
 {
-    if !may_cover(tree, place, mask, wanted) {
+    if !may_cover(tree, place, wanted) {
         return best;
     }
     walk(tree, place, wanted, best, steps)
 }
 
-/// Whether the atoms behind a place may cover all that is wanted, as a mask tells that has all of the place's own.
-fn may_cover(tree: &KeyTree, place: u32, mask: u64, wanted: &Wanted) -> bool
-    requires place { place < length tree.now.places }
-    requires mask { IsWithin (place_at tree.now place).below mask }
-    ensures { result ≡ false → (number : ℕ) → ¬ PassesBehind tree.now place (λ rest. Covers rest wanted.now) number }
+/// Whether the atom of a branch and those behind its place may cover all that is wanted, as the mask beside it tells.
+fn may_lead(tree: &KeyTree, kid: &Kid, mask: u64, wanted: &Wanted) -> bool
+    requires tells { TellsOfBranch tree.now kid.now }
+    requires own { IsWithin (gives_of (branch_to tree.now kid.now.place).atom) mask }
+    requires behind { IsWithin (place_at tree.now kid.now.place).below mask }
+    ensures { result ≡ false → (number : ℕ) → ¬ PassesBehind tree.now kid.now.place
+        (λ rest. Covers ((branch_to tree.now kid.now.place).atom ∷ rest) wanted.now) number }
 {
     prints_are_right();
     masks_are_right();
     // The proof knows what each tree keeps where one of its methods is called.
     let _root = tree.root();
     is_within(wanted.needs(), mask)
+}
+
+/// Whether the atoms behind a place may cover all that is wanted, as its mask tells.
+fn may_cover(tree: &KeyTree, place: u32, wanted: &Wanted) -> bool
+    requires { place < length tree.now.places }
+    ensures { result ≡ false → (number : ℕ) → ¬ PassesBehind tree.now place (λ rest. Covers rest wanted.now) number }
+{
+    prints_are_right();
+    masks_are_right();
+    is_within(wanted.needs(), tree.below(place))
 }
 
 /// The lesser of `best` and the number that the place has, if nothing is wanted.

@@ -1,2 +1,3 @@
 mod CoverLemmas
 mod BranchLemmas
+mod RunLemmas

@@ -1,15 +1,19 @@
 //! The walk for keys that the asked key covers.
 ghost use Rattle.std.specs.Prelude.{◌≡◌, ◌↔◌, ℕ, ◌+◌, ◌*◌, ◌<◌, ◌≤◌, ◌∷◌};
-ghost use Rattle.std.specs.Prelude.{length, map, Any, IsTrue};
+ghost use Rattle.std.specs.Prelude.{length, Any, IsTrue};
 ghost use Rattle.atom_implies.specs.Implies.{Covers, Implies};
 ghost use Rattle.key_tree.specs.Prints.{hash_of as form_hash};
 ghost use Rattle.key_tree.specs.Asked.{atom_hash};
 ghost use Rattle.key_tree.specs.Held.{IsLeastOf};
+ghost use Rattle.key_tree.specs.Runs.{IsRunOf};
 ghost use Rattle.key_tree.specs.Tree.{TellsOfBranch, branch_to, pairs_of};
 ghost use Rattle.key_tree.specs.Walks.{IsLeastFound, IsAtOrBehind, IsBehind, Visits};
 
 use atom_implies::{Steps, implies};
-use key_tree::{ABOVE_ALL, Asked, KeyTree, Kid, lesser, number_of, visits_go_on, walks_go_on};
+use key_tree::{
+    ABOVE_ALL, Asked, KeyTree, Kid, Run, lesser, number_of, prints_are_right, visits_go_on,
+    walks_go_on,
+};
 use lin_model::KeyAtom;
 use std::sync::ledger::Ledger;
 
@@ -73,24 +77,25 @@ fn is_implied<L: Ledger>(asked: &Asked, hash: u32, atom: &KeyAtom, steps: &mut S
     ensures exact { IsTrue result ↔ Any (λ b. Implies b atom.now) asked.now }
     ensures cost { steps.new ≤ steps.old + length asked.now }
 {
-    asked.has_form(hash) && some_implies(asked.atoms(), asked.hashes(), hash, atom, steps)
+    some_implies(asked, asked.run(hash), hash, atom, steps)
 }
 
-/// Whether some atom of the list implies this one.
+/// The same, where the run is that of the hash.
 fn some_implies<L: Ledger>(
-    atoms: &[KeyAtom],
-    hashes: &[u32],
+    asked: &Asked,
+    run: Run,
     hash: u32,
     atom: &KeyAtom,
     steps: &mut Steps<L>,
 ) -> bool
-    requires hashes { hashes.now ≡ map atom_hash atoms.now }
+    requires run { IsRunOf asked.now hash run }
     requires hash { hash ≡ form_hash atom.now.form }
-    ensures exact { IsTrue result ↔ Any (λ b. Implies b atom.now) atoms.now }
-    ensures cost { steps.new ≤ steps.old + length atoms.now }
+    ensures exact { IsTrue result ↔ Any (λ b. Implies b atom.now) asked.now }
+    ensures cost { steps.new ≤ steps.old + length asked.now }
 {
-    for (place, own_hash) in hashes.iter().enumerate() {
-        if implies_if_alike(&atoms[place], *own_hash, hash, atom, steps) {
+    prints_are_right();
+    for place in run.first..run.end {
+        if implies_if_alike(asked.atom(place), asked.hash(place), hash, atom, steps) {
             return true;
         }
     }

@@ -1,11 +1,11 @@
-use Rattle.std.proofs.Common.{◌∙◌, List, ◌∷◌, refl, arith}
+use Rattle.std.proofs.Common.{◌∙◌, List, ◌∷◌, arith}
 use Rattle.lin_model.specs.KeyAtom.{PlainKeyAtom}
 use Rattle.atom_implies.specs.Implies.{Covers}
 use Rattle.key_tree.specs.Tree.{branch_to}
-use Rattle.key_tree.specs.Walks.{covering, IsBehind}
+use Rattle.key_tree.specs.Walks.{covering, IsAtOrBehind, IsBehind}
 use Rattle.key_tree.specs.Found.{found_before, none_is_less}
 use Rattle.key_tree.specs.Loops.{found_more, found_all, visits_more, visits_all}
-use Rattle.sat_trie.proofs.BranchLemmas.{found_without, found_nothing, found_left, found_whole}
+use Rattle.sat_trie.proofs.BranchLemmas.{found_without, found_left, found_whole}
 use Rattle.sat_trie.proofs.WalkLemmas.{visits_none}
 use Rattle.sat_trie.proofs.walk.+walking.Goals as goal
 
@@ -52,6 +52,16 @@ walk-returns-clause-cost g t c = λ each le.
     c.loop-k.auto.k-end c.visits_go_on.ensures each c.args.steps.now c.loop-k.steps
     (c.loop-k.invariant.cost each le)
 
+pub look-returns-then-not-may_lead-clause-found : goal.look-returns-then-not-may_lead-clause-found
+look-returns-then-not-may_lead-clause-found g t c =
+    found_before c.args.tree.now c.args.kid.now.place
+    (λ (rest : List PlainKeyAtom). Covers ((branch_to c.args.tree.now c.args.kid.now.place).atom ∷ rest)
+    c.args.wanted.now) c.args.best (λ number passes. absurd (c.may_lead.ensures (cc) number passes))
+
+pub look-returns-then-not-may_lead-clause-cost : goal.look-returns-then-not-may_lead-clause-cost
+look-returns-then-not-may_lead-clause-cost g t c = λ each le.
+    visits_none (IsAtOrBehind c.args.tree.now c.args.kid.now.place) each c.args.steps.now
+
 pub look-returns-then-from-best-clause-found : goal.look-returns-then-from-best-clause-found
 look-returns-then-from-best-clause-found g t c =
     none_is_less c.args.tree.now c.args.kid.now.place
@@ -70,30 +80,22 @@ look-returns-then-not-has_form-clause-cost g t c = λ each le.
     c.visits_go_on.ensures.behind c.args.tree.now c.args.kid.now.place each c.args.steps.now c.args.steps.now
     c.enter.new.steps c.atom-atom.ensures.tree c.requires.tells.within (omega arith) (c.enter.ensures.cost each le)
 
-pub look-returns-in-None-clause-found : goal.look-returns-in-None-clause-found
-look-returns-in-None-clause-found g t c =
-    found_nothing c.args.tree.now c.args.kid.now.place c.args.wanted.now c.atom-atom.result.now c.atom-atom.ensures.atom
-    c.args.best c.enter-in-None.result ((c.in-None.ensures {u = tt}).none refl) c.enter-in-None.ensures.found
-
-pub look-returns-in-None-clause-cost : goal.look-returns-in-None-clause-cost
-look-returns-in-None-clause-cost g t c = λ each le.
-    c.visits_go_on.ensures.behind c.args.tree.now c.args.kid.now.place each c.args.steps.now c.without.new.steps
-    c.enter-in-None.new.steps c.atom-atom.ensures.tree c.requires.tells.within (omega (arith, c.without.ensures.cost))
-    (c.enter-in-None.ensures.cost each le)
-
 pub look-returns-then-is_empty-clause-found : goal.look-returns-then-is_empty-clause-found
 look-returns-then-is_empty-clause-found g t c =
     found_whole c.args.tree.now c.args.kid.now.place c.args.wanted.now c.atom-atom.result.now c.atom-atom.ensures.atom
-    c.in-Some.left (c.in-Some.ensures {u = tt}).rest c.atom-atom.ensures.tree c.requires.tells.some c.requires.tells.within
-    c.args.best _ (c.is_empty.ensures.0 (cc)) (c.from-then-is_empty.ensures ∙ c.requires.tells.least) (omega arith)
+    c.without-left.result c.without-left.ensures.rest c.atom-atom.ensures.tree c.requires.tells.some
+    c.requires.tells.within c.args.best _ (c.is_empty.ensures.0 (cc))
+    (c.from-then-is_empty.ensures ∙ c.requires.tells.least) (omega arith)
 
-pub look-returns-else-is_empty-clause-found : goal.look-returns-else-is_empty-clause-found
-look-returns-else-is_empty-clause-found g t c =
+pub look-returns-clause-found : goal.look-returns-clause-found
+look-returns-clause-found g t c =
     found_left c.args.tree.now c.args.kid.now.place c.args.wanted.now c.atom-atom.result.now c.atom-atom.ensures.atom
-    c.in-Some.left (c.in-Some.ensures {u = tt}).rest c.args.best c.enter-in-Some.result c.enter-in-Some.ensures.found
+    c.without-left.result c.without-left.ensures.rest c.args.best c.enter-2.result
+    c.enter-2.ensures.found
 
-pub look-returns-else-is_empty-clause-cost : goal.look-returns-else-is_empty-clause-cost
-look-returns-else-is_empty-clause-cost g t c = λ each le.
-    c.visits_go_on.ensures.behind c.args.tree.now c.args.kid.now.place each c.args.steps.now c.without.new.steps
-    c.enter-in-Some.new.steps c.atom-atom.ensures.tree c.requires.tells.within (omega (arith, c.without.ensures.cost))
-    (c.enter-in-Some.ensures.cost each (omega (arith, (c.in-Some.ensures {u = tt}).fewer)))
+pub look-returns-clause-cost : goal.look-returns-clause-cost
+look-returns-clause-cost g t c = λ each le.
+    c.visits_go_on.ensures.behind c.args.tree.now c.args.kid.now.place each c.args.steps.now c.without-left.new.steps
+    c.enter-2.new.steps c.atom-atom.ensures.tree c.requires.tells.within
+    (omega (arith, c.without-left.ensures.cost))
+    (c.enter-2.ensures.cost each (omega (arith, c.without-left.ensures.fewer)))

@@ -13,9 +13,9 @@ returns-clause-first g c =
     let own = c.own_number.result in
     let found = c.enter.result in
     let at_root : IsLeastFound tree 0 (λ rest. Covers rest c.all-wanted.result) own found =
-    subst (λ (place : ℕ). IsLeastFound tree place (λ rest. Covers rest c.all-wanted.result) own found) c.root-root.ensures.root
+    subst (λ (place : ℕ). IsLeastFound tree place (λ rest. Covers rest c.all-wanted.result) own found) c.root.ensures.root
     c.enter.ensures.found in
-    first_from_found tree c.root-root.ensures.tree (λ (key : List PlainKeyAtom). Covers key asked) found
+    first_from_found tree c.root.ensures.tree (λ (key : List PlainKeyAtom). Covers key asked) found
     (found_from_own tree asked (2 ^ 32) own found c.own_number.ensures.small c.own_number.ensures.number
     (subst (λ (wanted : List PlainKeyAtom). IsLeastFound tree 0 (λ rest. Covers rest wanted) own found)
     c.all-wanted.ensures at_root))
@@ -26,6 +26,6 @@ returns-clause-cost g c nodes is =
     let each = length c.args.asked.now in
     let same : length c.all-wanted.result ≡ each = ap (λ (xs : List PlainKeyAtom). length xs) c.all-wanted.ensures in
     turned_cost c.args.steps.now c.enter.new.steps each nodes
-    (c.visits_go_on.ensures.all c.args.tree.now each nodes c.args.steps.now c.enter.new.steps c.root-root.ensures.tree is
+    (c.visits_go_on.ensures.all c.args.tree.now each nodes c.args.steps.now c.enter.new.steps c.root.ensures.tree is
     (subst (λ (place : ℕ). Visits (IsBehind c.args.tree.now place) each c.args.steps.now c.enter.new.steps)
-    c.root-root.ensures.root (c.enter.ensures.cost each (omega (arith, same)))))
+    c.root.ensures.root (c.enter.ensures.cost each (omega (arith, same)))))

@@ -33,7 +33,7 @@ widen_to-requires c =
     let joined : Joined tree c.args.key.now
     (take (length c.atoms.result.now - c.args.front.len) (drop c.args.front.len c.atoms.result.now)) c.args.front
     (c.len.result + 1) c.args.number c.in_ok-chain.chain.branches.items c.in_ok-chain.chain.places.items
-    c.in_ok-chain.chain.kid c.in_ok-chain.chain.held c.join_chain.new.branches.items
+    c.in_ok-chain.chain.kid c.in_ok-chain.chain.gives c.in_ok-chain.chain.held c.join_chain.new.branches.items
     (c.join_chain.new.root ∷ c.join_chain.new.others.items) = record {
       keeps = c.self.invariant;
       is_front = subst (λ (t : PlainTree). IsFront t c.args.key.now c.args.front) (sym c.self.view_is) c.requires.front;
@@ -50,7 +50,7 @@ widen_to-requires c =
     } in
     subst (λ (bs : List Branch). MayWiden bs (c.join_chain.new.root ∷ c.join_chain.new.others.items)
     c.in_ok-chain.chain.held.place) (sym c.deref.ensures.value)
-    (joined_may_widen tree c.args.key.now _ c.args.front _ c.args.number _ _ _ c.in_ok-chain.chain.held _ _ joined)
+    (joined_may_widen tree c.args.key.now _ c.args.front _ c.args.number _ _ _ _ c.in_ok-chain.chain.held _ _ joined)
 
 pub invariant_of-self-2 : goal.invariant_of-self-2
 invariant_of-self-2 c =
@@ -64,7 +64,7 @@ invariant_of-self-2 c =
     let joined : Joined tree c.args.key.now
     (take (length c.atoms.result.now - c.args.front.len) (drop c.args.front.len c.atoms.result.now)) c.args.front
     (c.len.result + 1) c.args.number c.in_ok-chain.chain.branches.items c.in_ok-chain.chain.places.items
-    c.in_ok-chain.chain.kid c.in_ok-chain.chain.held c.join_chain.new.branches.items
+    c.in_ok-chain.chain.kid c.in_ok-chain.chain.gives c.in_ok-chain.chain.held c.join_chain.new.branches.items
     (c.join_chain.new.root ∷ c.join_chain.new.others.items) = record {
       keeps = c.self.invariant;
       is_front = subst (λ (t : PlainTree). IsFront t c.args.key.now c.args.front) (sym c.self.view_is) c.requires.front;
@@ -82,7 +82,7 @@ invariant_of-self-2 c =
     let wide : List PlainPlace = c.widen_to.new.root ∷ c.widen_to.new.others.items in
     let masked : AreMasked c.join_chain.new.branches.items wide =
     subst (λ (bs : List Branch). AreMasked bs wide) c.deref.ensures.value c.widen_to.ensures.masked in
-    let grew = joined_grew tree c.args.key.now _ c.args.front _ c.args.number _ _ _ c.in_ok-chain.chain.held _ _ joined
+    let grew = joined_grew tree c.args.key.now _ c.args.front _ c.args.number _ _ _ _ c.in_ok-chain.chain.held _ _ joined
     wide c.join_chain.new.held.items c.widen_to.ensures.same masked joins.held in
     grown_tree tree _ c.args.key.now _ _ c.args.front.place c.args.front.at c.in_ok-chain.chain.held.place c.args.number grew
 
@@ -98,7 +98,7 @@ returns-clause-held c =
     let joined : Joined tree c.args.key.now
     (take (length c.atoms.result.now - c.args.front.len) (drop c.args.front.len c.atoms.result.now)) c.args.front
     (c.len.result + 1) c.args.number c.in_ok-chain.chain.branches.items c.in_ok-chain.chain.places.items
-    c.in_ok-chain.chain.kid c.in_ok-chain.chain.held c.join_chain.new.branches.items
+    c.in_ok-chain.chain.kid c.in_ok-chain.chain.gives c.in_ok-chain.chain.held c.join_chain.new.branches.items
     (c.join_chain.new.root ∷ c.join_chain.new.others.items) = record {
       keeps = c.self.invariant;
       is_front = subst (λ (t : PlainTree). IsFront t c.args.key.now c.args.front) (sym c.self.view_is) c.requires.front;
@@ -116,7 +116,7 @@ returns-clause-held c =
     let wide : List PlainPlace = c.widen_to.new.root ∷ c.widen_to.new.others.items in
     let masked : AreMasked c.join_chain.new.branches.items wide =
     subst (λ (bs : List Branch). AreMasked bs wide) c.deref.ensures.value c.widen_to.ensures.masked in
-    let grew = joined_grew tree c.args.key.now _ c.args.front _ c.args.number _ _ _ c.in_ok-chain.chain.held _ _ joined
+    let grew = joined_grew tree c.args.key.now _ c.args.front _ c.args.number _ _ _ _ c.in_ok-chain.chain.held _ _ joined
     wide c.join_chain.new.held.items c.widen_to.ensures.same masked joins.held in
     let pair : Pair = record { key = c.args.key.now; number = c.args.number } in
     pairs_new tree _ c.args.key.now _ _ c.args.front.place c.args.front.at c.in_ok-chain.chain.held.place c.args.number grew
