@@ -4,8 +4,8 @@ set -eu
 cd "$(dirname "$0")/.."
 session() {
     printf 'green 1\nexecutor\nquery\n'
-    printf 'var x -2147483648 2147483647\nvar y -2147483648 2147483647\n'
-    printf 'x - y <= -1\ny - x <= -1\nend\n'
+    printf 'var x 0 1000000000\nvar y 0 1000000000\nvar z 0 1000000000\n'
+    printf 'x = 2*y\nx = 2*z + 1\nend\n'
 }
 printf 'green 1\nend\n' | ./green solve > /dev/null
 before=$(date +%s.%N)

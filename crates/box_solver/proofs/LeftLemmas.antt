@@ -1,47 +1,80 @@
 -- Left for each box that is left, one after another.
-use Rattle.std.proofs.Common.{◌≡◌, ℕ, ◌+◌, ◌-◌, ◌<◌, ◌≤◌, List, [], ◌∷◌, ◌++◌, replicate, ap, sym, ◌∙◌, subst, arith}
-use Rattle.std.proofs.Common.{append_assoc}
-use Rattle.std.proofs.lemmas.List.{append-nil, replicate-append-replicate}
+use Rattle.std.proofs.Common.{◌≡◌, ℕ, ◌+◌, ◌-◌, ◌<◌, ◌≤◌, ℤ, Bool, true, false, cond, not, List, [], ◌∷◌, ◌++◌, length}
+use Rattle.std.proofs.Common.{replicate, refl, ap, sym, ◌∙◌, subst, arith}
+use Rattle.std.proofs.lemmas.List.{replicate-append-replicate}
+use Rattle.std.proofs.lemmas.List.Sums.{sum_by-append}
+use Rattle.tree_pool.specs.Region.{WasPopped}
+use Rattle.refutation.specs.declared.leaf.LeafTerm.{LeafTerm}
 use Rattle.refutation.specs.declared.node.Node.{Node}
 use Rattle.refutation.specs.declared.node.Node.TheVariants.{Left}
-use Rattle.refutation.specs.Tree.{PlainTree}
-use Rattle.box_solver.specs.Region.{Adds, Grows}
+use Rattle.box_solver.specs.Region.{PlainTreeRegion, TrailItem, Adds}
+use Rattle.box_solver.specs.Trail.{is_first_half, waiting_count}
+use Rattle.box_solver.proofs.RegionLemmas.{adds-adds, adds-none, adds-same, popped-adds}
 
--- of so many boxes so many are left, and the others have a Left each
-pub record LeftSoFar (old new : PlainTree) (all left : ℕ) : Type 0 where
-  pub within : left ≤ all
-  pub adds : Adds old new (replicate (all - left) Left) []
+-- so many boxes have a Left, and the others wait on the trail
+pub record LeavesOpen (old new : PlainTreeRegion) : Type 0 where
+  pub count : ℕ
+  pub adds : Adds old new (replicate count Left) []
+  pub all : count + waiting_count new.trail ≡ waiting_count old.trail
+  pub enough : waiting_count new.trail ≤ new.spare_nodes
+  pub room : length new.trail + new.spare_trail ≡ length old.trail + old.spare_trail
 
-pub left-start : (region : PlainTree) (all : ℕ) → LeftSoFar region region all all
-left-start region all =
-    let none : 0 ≡ all - all = omega arith in
+pub left-start : (a : PlainTreeRegion) → waiting_count a.trail ≤ a.spare_nodes → LeavesOpen a a
+left-start a enough =
+    record { count = 0; adds = adds-none a; all = omega arith; enough = enough; room = refl }
+
+-- what waits with the item before
+count-item : (item : TrailItem) (trail : List TrailItem)
+    → waiting_count (item ∷ trail) ≡ waiting_count (item ∷ []) + waiting_count trail
+count-item item trail = sum_by-append (λ i. cond (is_first_half i) 1 0) (item ∷ []) trail
+
+popped-counts : (b c : PlainTreeRegion) (item : TrailItem) → WasPopped item b c
+    → (waiting_count b.trail ≡ waiting_count (item ∷ []) + waiting_count c.trail)
+    × (length c.trail + c.spare_trail ≡ length b.trail + b.spare_trail)
+popped-counts b c item p =
+    let longer = ap length p.trail in
+    (ap waiting_count p.trail ∙ count-item item c.trail, omega (arith, longer, p.spare_trail))
+
+pub one-waits : (v : ℕ) (n : ℤ) (right : Bool) → right ≡ false → waiting_count ((v, n, right) ∷ []) ≡ 1
+one-waits v n right is = ap (λ (b : Bool). waiting_count ((v, n, b) ∷ [])) is
+
+-- the turn leads to the second half, so that no other half waits
+pub left-same : (a b c : PlainTreeRegion) (item : TrailItem) → LeavesOpen a b → WasPopped item b c
+    → waiting_count (item ∷ []) ≡ 0 → LeavesOpen a c
+left-same a b c item h p none =
+    let adds = popped-adds b c item p in
+    let counts = popped-counts b c item p in
     record {
-      within = omega arith;
-      adds = record {
-        nodes_after = sym (append-nil region.nodes)
-            ∙ ap (λ (n : ℕ). region.nodes ++ replicate n Left) none;
-        terms_after = sym (append-nil region.terms);
-      };
+      count = h.count;
+      adds = adds-same a b c (replicate h.count Left) [] h.adds adds;
+      all = omega (arith, h.all, counts.0, none);
+      enough = omega (arith, h.enough, counts.0, none, adds.nodes_less);
+      room = omega (arith, h.room, counts.1);
     }
 
-pub left-more : (old now new : PlainTree) (all left left' : ℕ) → 0 < left → left' ≡ left - 1
-    → Adds now new (Left ∷ []) [] → LeftSoFar old now all left → LeftSoFar old new all left'
-left-more old now new all left left' some is adds h =
-    let more : all - left + 1 ≡ all - left' = omega (arith, h.within) in
+-- it leads to the first half, and the other one gets its Left
+pub left-more : (a b c d : PlainTreeRegion) (item : TrailItem) → LeavesOpen a b → WasPopped item b c
+    → waiting_count (item ∷ []) ≡ 1 → Adds c d (Left ∷ []) [] → d.trail ≡ c.trail → d.spare_trail ≡ c.spare_trail
+    → LeavesOpen a d
+left-more a b c d item h p one wrote same_trail same_spare =
+    let adds = popped-adds b c item p in
+    let counts = popped-counts b c item p in
+    let kept = ap waiting_count same_trail in
+    let long = ap length same_trail in
     record {
-      within = omega (arith, h.within);
-      adds = record {
-        nodes_after = adds.nodes_after ∙ ap (λ (xs : List Node). xs ++ Left ∷ []) h.adds.nodes_after
-            ∙ append_assoc old.nodes (replicate (all - left) Left) (Left ∷ [])
-            ∙ ap (λ (xs : List Node). old.nodes ++ xs) (replicate-append-replicate (all - left) 1 Left)
-            ∙ ap (λ (n : ℕ). old.nodes ++ replicate n Left) more;
-        terms_after = adds.terms_after ∙ append-nil now.terms ∙ h.adds.terms_after;
-      };
+      count = h.count + 1;
+      adds = subst (λ (ls : List Node). Adds a d ls []) (replicate-append-replicate h.count 1 Left)
+          (adds-adds a c d (replicate h.count Left) (Left ∷ []) [] []
+          (adds-same a b c (replicate h.count Left) [] h.adds adds) wrote);
+      all = omega (arith, h.all, counts.0, one, kept);
+      enough = omega (arith, h.enough, counts.0, one, adds.nodes_less, wrote.nodes_less, kept);
+      room = omega (arith, h.room, counts.1, long, same_spare);
     }
 
-pub left-grows : (old new : PlainTree) (all left : ℕ) → LeftSoFar old new all left → Grows old new
-left-grows old new all left h = record { nodes = replicate (all - left) Left; terms = []; adds = h.adds }
-
-pub left-all : (old new : PlainTree) (all left : ℕ) → left ≡ 0 → LeftSoFar old new all left
-    → Adds old new (replicate all Left) []
-left-all old new all left none h = subst (λ n. Adds old new (replicate n Left) []) (omega arith) h.adds
+-- there is room for one more
+pub left-room : (a b c : PlainTreeRegion) (item : TrailItem) → LeavesOpen a b → WasPopped item b c
+    → waiting_count (item ∷ []) ≡ 1 → 0 < c.spare_nodes
+left-room a b c item h p one =
+    let adds = popped-adds b c item p in
+    let counts = popped-counts b c item p in
+    omega (arith, h.enough, counts.0, one, adds.nodes_less)

@@ -1,10 +1,11 @@
 -- A search from node to node: what it has built stays a search tree, and at its end it refutes the key or is open.
-use Rattle.std.proofs.Common.{◌≡◌, ℕ, ◌+◌, ◌^◌, ◌<◌, ◌≤◌, ℤ, Bool, true, false, cond, ◌||◌, ◌&&◌, Option, Some, None}
-use Rattle.std.proofs.Common.{List, [], ◌∷◌, ◌++◌, length, replicate, unsigned_abs, nat_le, nat_lt, refl, ap, sym, ◌∙◌}
+use Rattle.std.proofs.Common.{◌≡◌, ℕ, ◌+◌, ◌≤◌, Bool, true, false, cond, ◌||◌, ◌&&◌, Option, Some, None}
+use Rattle.std.proofs.Common.{List, [], ◌∷◌, ◌++◌, length, take, drop, replicate, nat_le, refl, ap, sym, ◌∙◌}
 use Rattle.std.proofs.Common.{subst, arith}
 use Rattle.std.specs.Option.{option_or}
-use Rattle.std.proofs.lemmas.Bool.{and_from, lt-ltb, le-leb}
 use Rattle.std.specs.List.{All, list_any}
+use Rattle.std.proofs.lemmas.Bool.{and_parts, both_ways, le-leb, leb-true}
+use Rattle.std.proofs.Math.Seq.{take-length, drop-length}
 use Rattle.std.proofs.lemmas.List.Elements.{All-nil, All-cons, All-append, All-head, All-tail}
 use Rattle.std.proofs.lemmas.List.Folds.{list_any-append, find-append}
 use Rattle.lin_model.specs.KeyAtom.{PlainKeyAtom}
@@ -12,39 +13,42 @@ use Rattle.lin_model.specs.Key.{key_width}
 use Rattle.lin_model.specs.Lists.{IsSomeAnd-found}
 use Rattle.refutation.specs.declared.leaf.LeafTerm.{LeafTerm}
 use Rattle.refutation.specs.declared.node.Node.{Node}
-use Rattle.refutation.specs.declared.node.Node.TheVariants.{Split, Combo, Fixed, Left}
-use Rattle.refutation.specs.Bounds.{key_bounds, is_empty}
-use Rattle.refutation.specs.Box.{PlainBox, root_box, left_half, right_half}
-use Rattle.refutation.specs.Boxed.{IsBoxed, HasShortSides, IsCut}
-use Rattle.refutation.specs.Reading.{treated, Met, TreeReading, read_over, Refutes}
+use Rattle.refutation.specs.declared.node.Node.TheVariants.{Split, NeSplit, Combo, Fixed, Empty, Left}
+use Rattle.refutation.specs.declared.side.Side.{Side}
+use Rattle.refutation.specs.Bounds.{key_bounds}
+use Rattle.refutation.specs.Box.{PlainBox, root_box}
+use Rattle.refutation.specs.Boxed.{IsBoxed, HasShortSides}
+use Rattle.refutation.specs.Leaf.{PlainLeaf, combo, fixed, empty, combo_closes, Closes}
+use Rattle.refutation.specs.Reading.{treated, names_ne, Met, TreeReading, read_over, Refutes}
 use Rattle.refutation.specs.ReadingFacts.{read-some}
-use Rattle.refutation.specs.SearchOrder.{lower_or_zero, upper_or_zero, middle}
-use Rattle.refutation.specs.SearchTree.{is_left, inner_count, search_reading, undecided_boxes, first_left, KeepsOrder}
-use Rattle.refutation.specs.SearchTree.{IsUndecided, IsSearchTree, IsOpenTree}
-use Rattle.refutation.specs.Halving.{IsWidest}
+use Rattle.refutation.specs.SearchOrder.{step}
+use Rattle.refutation.specs.SearchTree.{is_inner, is_left, inner_count, search_reading, undecided_boxes, first_left}
+use Rattle.refutation.specs.SearchTree.{IsFair, KeepsOrder, IsUndecided, IsSearchTree, IsOpenTree}
 use Rattle.refutation.specs.Laws.{CutsLeaveProperHalves}
-use Rattle.box_solver.specs.declared.one_atom.OneAtom.{OneAtom}
-use Rattle.box_solver.specs.declared.one_atom.OneAtom.TheVariants.{Term, Fixed as FixedAtom}
-use Rattle.box_solver.specs.OneAtom.{node_by, terms_by, ClosesBy}
+use Rattle.box_solver.specs.Nodes.{leaf_node, leaf_terms, halves}
 use Rattle.box_solver.specs.Progress.{IsSearchBox, HasRead}
+use Rattle.box_solver.specs.Steps.{SplitsFairly}
 use Rattle.box_solver.proofs.ReadLemmas.{joined, read-append, read-strictly, no_left-met, lefts_met, lefts-read}
 use Rattle.box_solver.proofs.ReadLemmas.{lefts-in_order, lefts-inner, inner_count-append, NoInnerAfterLeft-append}
-use Rattle.box_solver.proofs.HalvesLemmas.{left-fits, right-fits, fair}
-use Rattle.box_solver.proofs.MiddleLemmas.{middle-cuts}
+use Rattle.box_solver.proofs.HalvesLemmas.{halves-fit, split-treats}
 
 -- ---- the start
 
 pub read-start : (key : List PlainKeyAtom) → key_width key ≤ 64 → IsBoxed key → HasShortSides (key_bounds key)
-    → is_empty (key_bounds key) ≡ false → HasRead key 0 [] [] (root_box key ∷ [])
+    → HasRead key 0 [] [] (root_box key ∷ [])
 unfolding read_over
-read-start key narrow boxed short full = record {
+read-start key narrow boxed short = record {
   narrow = narrow;
   search = record { no_rest = refl; no_terms = refl; in_order = All-nil (KeepsOrder key) };
   left = refl;
   inner = refl;
   no_left = refl;
-  fit = All-cons (IsSearchBox key) (root_box key) []
-      (record { no_sides = refl; not_empty = full; boxed = boxed; short = short }) (All-nil (IsSearchBox key));
+  fit = All-cons (IsSearchBox key) (root_box key) [] (record {
+    boxed = boxed;
+    short = short;
+    ne_sides = All-nil (λ (side : Side). names_ne key side.atom ≡ true);
+    apart = λ i j d less lt. absurd (omega (arith, lt));
+  }) (All-nil (IsSearchBox key));
 }
 
 -- ---- more nodes
@@ -110,54 +114,71 @@ read-node key splits nodes terms box rest boxes node terms' h keeps is not_left 
     }
 
 -- a closed box
-pub read-closed : (key : List PlainKeyAtom) (splits : ℕ) (nodes : List Node) (terms : List LeafTerm) (box : PlainBox)
-    (rest : List PlainBox) (found : OneAtom) → HasRead key splits nodes terms (box ∷ rest) → ClosesBy key box found
-    → HasRead key splits (nodes ++ node_by found ∷ []) (terms ++ terms_by found) rest
+leaf-treats : (key : List PlainKeyAtom) (box : PlainBox) (leaf : PlainLeaf) → Closes key box leaf
+    → treated true key box (leaf_node leaf) (leaf_terms leaf) ≡ Some (record { boxes = []; terms = [] })
 unfolding treated
-read-closed key splits nodes terms box rest (Term term) h closes =
-    subst (λ n. HasRead key n (nodes ++ Combo 1 ∷ []) (terms ++ term ∷ []) rest) (omega arith)
-    (read-node key splits nodes terms box rest [] (Combo 1) (term ∷ []) h (λ inner. absurd (cc))
-    (ap (λ (b : Bool). cond b (Some (record { boxes = []; terms = [] })) None) closes.closing) refl
-    (All-nil (IsSearchBox key)))
-read-closed key splits nodes terms box rest (FixedAtom i) h closes =
-    subst (λ n. HasRead key n (nodes ++ Fixed i ∷ []) (terms ++ []) rest) (omega arith)
-    (read-node key splits nodes terms box rest [] (Fixed i) [] h (λ inner. absurd (cc))
-    (ap (λ (b : Bool). cond b (Some (record { boxes = []; terms = [] })) None) closes) refl (All-nil (IsSearchBox key)))
+leaf-treats key box (combo terms) closes =
+    let n = length terms in
+    ap (λ (b : Bool). cond (b && combo_closes key box (take n terms))
+    (Some (record { boxes = []; terms = drop n terms })) None) (le-leb n n (omega arith))
+    ∙ ap (λ (ts : List LeafTerm). cond (combo_closes key box ts) (Some (record { boxes = []; terms = drop n terms }))
+    None) (take-length terms)
+    ∙ ap (λ (b : Bool). cond b (Some (record { boxes = []; terms = drop n terms })) None) closes
+    ∙ ap (λ (ts : List LeafTerm). Some (record { boxes = []; terms = ts })) (drop-length terms)
+leaf-treats key box (fixed i) closes =
+    ap (λ (b : Bool). cond b (Some (record { boxes = []; terms = [] })) None) closes
+leaf-treats key box empty closes =
+    ap (λ (b : Bool). cond b (Some (record { boxes = []; terms = [] })) None) closes
 
--- a halved box
-split-treats : (key : List PlainKeyAtom) (box : PlainBox) (v : ℕ) (cut : ℤ) → v < 64 → unsigned_abs cut ≤ 2 ^ 32
-    → treated true key box (Split v cut) []
-    ≡ Some (record { boxes = left_half box v cut ∷ right_half box v cut ∷ []; terms = [] })
-unfolding treated
-split-treats key box v cut lt small =
-    ap (λ (b : Bool). cond b (Some (record { boxes = left_half box v cut ∷ right_half box v cut ∷ []; terms = [] }))
-    None) (lawful v (unsigned_abs cut) (2 ^ 32) lt small)
-  where
-    lawful : (w n m : ℕ) → w < 64 → n ≤ m → (nat_lt w 64 && nat_le n m) ≡ true
-    lawful w n m f g = and_from (nat_lt w 64) (nat_le n m) (lt-ltb w 64 f) (le-leb n m g)
+-- a leaf takes eight terms at most
+pub closes-few : (key : List PlainKeyAtom) (box : PlainBox) (leaf : PlainLeaf) → Closes key box leaf
+    → length (leaf_terms leaf) ≤ 8
+unfolding combo_closes
+closes-few key box (combo terms) closes =
+    leb-true (length terms) 8 (and_parts (nat_le (length terms) 8) _ (and_parts (nat_le 1 (length terms)) _ closes).1).0
+closes-few key box (fixed i) closes = omega arith
+closes-few key box empty closes = omega arith
+
+-- no leaf is an inner node, and none is a Left
+leaf-outer : (leaf : PlainLeaf) → (is_inner (leaf_node leaf) ≡ false) × (is_left (leaf_node leaf) ≡ false)
+    × (inner_count (leaf_node leaf ∷ []) ≡ 0)
+leaf-outer (combo terms) = (refl, refl, refl)
+leaf-outer (fixed i) = (refl, refl, refl)
+leaf-outer empty = (refl, refl, refl)
+
+pub read-closed : (key : List PlainKeyAtom) (splits : ℕ) (nodes : List Node) (terms : List LeafTerm) (box : PlainBox)
+    (rest : List PlainBox) (leaf : PlainLeaf) → HasRead key splits nodes terms (box ∷ rest) → Closes key box leaf
+    → HasRead key splits (nodes ++ leaf_node leaf ∷ []) (terms ++ leaf_terms leaf) rest
+read-closed key splits nodes terms box rest leaf h closes =
+    let outer = leaf-outer leaf in
+    subst (λ n. HasRead key n (nodes ++ leaf_node leaf ∷ []) (terms ++ leaf_terms leaf) rest)
+    (omega (arith, outer.2))
+    (read-node key splits nodes terms box rest [] (leaf_node leaf) (leaf_terms leaf) h
+    (λ inner. absurd (both_ways (is_inner (leaf_node leaf)) outer.0 inner)) (leaf-treats key box leaf closes) outer.1
+    (All-nil (IsSearchBox key)))
+
+-- a box that is split
+pub split-inner : (key : List PlainKeyAtom) (box : PlainBox) (node : Node) → SplitsFairly key box node
+    → (inner_count (node ∷ []) ≡ 1) × (is_left node ≡ false) × IsFair key box node × (length (halves node box) ≡ 2)
+split-inner key box (Split v cut) f = (refl, refl, f.fair, refl)
+split-inner key box (NeSplit i) f = (refl, refl, f.fair, refl)
+split-inner key box (Combo count) f = absurd f
+split-inner key box (Fixed i) f = absurd f
+split-inner key box Empty f = absurd f
+split-inner key box Left f = absurd f
 
 pub read-split : CutsLeaveProperHalves → (key : List PlainKeyAtom) (splits : ℕ) (nodes : List Node)
-    (terms : List LeafTerm) (box : PlainBox) (rest : List PlainBox) (v : ℕ) (cut : ℤ)
-    → HasRead key splits nodes terms (box ∷ rest) → IsUndecided key box → IsWidest box.bounds (key_width key) v
-    → cut ≡ middle box.bounds v → HasRead key (splits + 1) (nodes ++ Split v cut ∷ []) (terms ++ [])
-    (left_half box v cut ∷ right_half box v cut ∷ rest)
-read-split leave key splits nodes terms box rest v cut h undecided w at_middle =
+    (terms : List LeafTerm) (box : PlainBox) (rest : List PlainBox) (node : Node)
+    → HasRead key splits nodes terms (box ∷ rest) → IsUndecided key box → SplitsFairly key box node
+    → step key box ≡ Some node
+    → HasRead key (splits + 1) (nodes ++ node ∷ []) (terms ++ []) (halves node box ++ rest)
+read-split leave key splits nodes terms box rest node h undecided fair is =
     let s = All-head (IsSearchBox key) box rest h.fit in
-    let lo = lower_or_zero box.bounds v in
-    let hi = upper_or_zero box.bounds v in
-    let is : IsCut box.bounds v lo hi cut = subst (IsCut box.bounds v lo hi) (sym at_middle)
-    (middle-cuts key box v h.narrow s undecided w) in
-    let halves = leave box.bounds v lo hi cut is in
-    read-node key splits nodes terms box rest (left_half box v cut ∷ right_half box v cut ∷ []) (Split v cut) [] h
-    (λ _. record {
-      fair = fair key box v cut w.below halves s.not_empty;
-      undecided = undecided;
-      in_order = record { var = v; is_widest = w; at_middle = ap (Split v) at_middle };
-    })
-    (split-treats key box v cut is.below (halves.short_cut s.short)) refl
-    (All-cons (IsSearchBox key) (left_half box v cut) (right_half box v cut ∷ []) (left-fits key box v cut halves s)
-    (All-cons (IsSearchBox key) (right_half box v cut) [] (right-fits key box v cut halves s)
-    (All-nil (IsSearchBox key))))
+    let inner = split-inner key box node fair in
+    subst (λ n. HasRead key (splits + n) (nodes ++ node ∷ []) (terms ++ []) (halves node box ++ rest)) inner.0
+    (read-node key splits nodes terms box rest (halves node box) node [] h
+    (λ _. record { fair = inner.2; undecided = undecided; in_order = is }) (split-treats leave key box node fair s)
+    inner.1 (halves-fit leave key box node fair s))
 
 -- ---- the end
 

@@ -11,16 +11,15 @@ use Rattle.refutation.specs.SearchOrder.{lowest_corner}
 use Rattle.refutation.specs.SearchTree.{IsSearchTree, undecided_boxes, inner_count, is_left, IsOpenTree, room}
 use Rattle.box_solver.specs.declared.found.Found.{Found}
 use Rattle.box_solver.specs.declared.found.Found.TheVariants.{Model, Refuted, Spent}
-use Rattle.refutation.specs.Tree.{PlainTree}
-use Rattle.box_solver.specs.Region.{Adds}
+use Rattle.box_solver.specs.Region.{Adds, PlainTreeRegion}
 
 -- there is a first box, and this point is its lowest corner
 abbrev pub IsFirstCorner : List PlainKeyAtom → List PlainBox → List ℤ → Type 0
 IsFirstCorner key [] point = ⊥
 IsFirstCorner key (box ∷ boxes) point = point ≡ lowest_corner key box.bounds
 
--- a model with its tree: the point satisfies the key, and is the lowest corner of the first box that a search by
--- halving leaves after few splits
+-- a model with its tree: the point satisfies the key, and is the lowest corner of the first box that a search leaves after
+-- few splits
 pub record IsModelTree (key : List PlainKeyAtom) (budget : ℕ) (point : List ℤ) (nodes : List Node)
     (terms : List LeafTerm) : Type 0 where
   pub one_each : length point ≡ key_width key
@@ -31,14 +30,14 @@ pub record IsModelTree (key : List PlainKeyAtom) (budget : ℕ) (point : List �
   pub few : inner_count nodes ≤ budget
   pub corner : IsFirstCorner key (undecided_boxes key nodes terms) point
 
--- a tree that refutes the key, by halving, in few splits
+-- a search that refutes the key in few splits
 pub record IsRefutingTree (key : List PlainKeyAtom) (budget : ℕ) (nodes : List Node) (terms : List LeafTerm) : Type 0
   where
     pub refutes : Refutes key nodes terms
     pub search : IsSearchTree key nodes terms
     pub few : inner_count nodes ≤ budget
 
--- an open tree by halving, of just as many splits as the budget, which is below the room of the key
+-- an open tree of just as many splits as the budget, which is below the room of the key
 pub record IsSpentTree (key : List PlainKeyAtom) (budget : ℕ) (nodes : List Node) (terms : List LeafTerm) : Type 0 where
   pub open_tree : IsOpenTree key budget nodes terms
   pub below_room : budget < room key
@@ -49,9 +48,11 @@ IsAnswer key budget (Model point) nodes terms = IsModelTree key budget point.ite
 IsAnswer key budget Refuted nodes terms = IsRefutingTree key budget nodes terms
 IsAnswer key budget Spent nodes terms = IsSpentTree key budget nodes terms
 
--- the region has, behind what it had, the tree of the answer
-pub record Answers (key : List PlainKeyAtom) (budget : ℕ) (old new : PlainTree) (found : Found) : Type 0 where
+-- the region has, behind what it had, the tree of the answer; no item of the trail is left, and the room for it is as it was
+pub record Answers (key : List PlainKeyAtom) (budget : ℕ) (old new : PlainTreeRegion) (found : Found) : Type 0 where
   pub nodes : List Node
   pub terms : List LeafTerm
   pub adds : Adds old new nodes terms
+  pub no_trail : new.trail ≡ []
+  pub spare_trail : new.spare_trail ≡ old.spare_trail
   pub answer : IsAnswer key budget found nodes terms

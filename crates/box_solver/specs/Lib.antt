@@ -1,6 +1,8 @@
 pub mod Region
-pub mod OneAtom
-pub mod Halving
+pub mod Trail
+pub mod Steps
+pub mod Cuts
 pub mod Progress
+pub mod Nodes
 pub mod Answer
 pub mod Laws

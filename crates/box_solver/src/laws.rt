@@ -3,8 +3,8 @@
 ghost use Rattle.box_solver.specs.Laws.{EachHasAnswer, CornerIsAnswer};
 
 use refutation::{
-    closed_by_atoms_of_the_key, cuts_leave_proper_halves, key_bounds_are_short,
-    open_trees_are_below_room, roots_of_models_stay_open,
+    cuts_leave_proper_halves, glances_try_units, key_bounds_are_short, open_trees_are_below_room,
+    roots_of_models_stay_open,
 };
 
 /// Every boxed key has an answer, whatever the budget: a model, a refutation or a spent tree as `solve` promises them.
@@ -13,7 +13,7 @@ pub fn answers_exist()
 {
     open_trees_are_below_room();
     cuts_leave_proper_halves();
-    closed_by_atoms_of_the_key();
+    glances_try_units();
     key_bounds_are_short();
 }
 

@@ -3,15 +3,23 @@
 
 mod boxed;
 mod corner;
+mod cut_by;
 mod found;
-mod halving;
 mod laws;
-mod one_atom;
+mod position;
 mod region;
 mod search;
+mod sides;
+mod step_by;
+mod tighter_side;
+mod turn;
+mod write;
 
 pub use boxed::is_boxed;
+pub use cut_by::cut;
 pub use found::Found;
 pub use laws::{answers_exist, corner_is_answer};
-pub use region::{Mark, TreeRegion};
+pub use region::TreeRegion;
 pub use search::solve;
+pub use step_by::step;
+pub use tighter_side::TighterSide;

@@ -2,10 +2,11 @@
 ghost use Rattle.std.specs.Prelude.{IfOk};
 ghost use Rattle.refutation.specs.Boxed.{IsBoxed};
 
-use crate::fixtures::{DIFFERENCE, atom, key_of, on_atom};
-use box_solver::{Found, TreeRegion, is_boxed, solve};
+use crate::fixtures::{DIFFERENCE, atom, key_of, on_atom, on_side};
+use box_solver::{Found, TighterSide, TreeRegion, cut, is_boxed, solve, step};
+use combos::find_combo;
 use lin_model::{FormTerm, Key, KeyAtom, Op};
-use refutation::{Node, refutes};
+use refutation::{Bounds, Node, refutes};
 use std::alloc::Global;
 use std::test::Fail;
 
@@ -48,32 +49,14 @@ fn apart(alloc: Global, low: i64, high: i64, both: bool) -> Result<Key, Fail>
 }
 
 #[test]
-fn one_split_over_wide_bounds_leaves_both_halves(rt: HostRuntime) -> Result<(), Fail> {
+fn the_sum_of_two_closes_wide_bounds(rt: HostRuntime) -> Result<(), Fail> {
     let alloc = rt.alloc();
     let key = apart(alloc, LEAST, GREATEST, true)?;
     let mut region = TreeRegion::reserve(alloc, 1)?;
-    let found = solve(alloc, &key, 1, &mut region)?;
-    assert!(rt; matches!(&found, Found::Spent));
-    let nodes = [Node::Split { var: 0, cut: -1 }, Node::Left, Node::Left];
-    assert!(rt; region.nodes() == nodes.as_slice());
-    assert!(rt; region.terms().is_empty());
-    Ok(())
-}
-
-#[test]
-fn a_split_refutes_two_values_each(rt: HostRuntime) -> Result<(), Fail> {
-    let alloc = rt.alloc();
-    let key = apart(alloc, 0, 1, true)?;
-    let mut region = TreeRegion::reserve(alloc, 4)?;
-    let found = solve(alloc, &key, 4, &mut region)?;
+    let found = solve(&key, 1, &mut region);
     assert!(rt; matches!(&found, Found::Refuted));
-    let nodes = [
-        Node::Split { var: 0, cut: 0 },
-        Node::Combo { count: 1 },
-        Node::Combo { count: 1 },
-    ];
-    assert!(rt; region.nodes() == nodes.as_slice());
-    assert!(rt; region.terms() == [on_atom(3, 1), on_atom(2, 1)].as_slice());
+    assert!(rt; region.nodes() == [Node::Combo { count: 2 }].as_slice());
+    assert!(rt; region.terms() == [on_atom(2, 1), on_atom(3, 1)].as_slice());
     assert_eq!(rt;
         refutes(alloc, &key, region.nodes(), region.terms()),
         Ok(())
@@ -81,34 +64,164 @@ fn a_split_refutes_two_values_each(rt: HostRuntime) -> Result<(), Fail> {
     Ok(())
 }
 
+/// `v0 <= v1`, `v0 >= v1` and `v0 != v1`: one split by the last, and the sum of two on each side.
+#[test]
+fn a_split_by_an_atom_leaves_two_sums(rt: HostRuntime) -> Result<(), Fail> {
+    let alloc = rt.alloc();
+    let mut atoms = Vec::new(alloc);
+    atoms.push(atom(alloc, &FIRST, Op::Le, GREATEST)?)?;
+    atoms.push(atom(alloc, &FIRST, Op::Ge, LEAST)?)?;
+    for op in [Op::Le, Op::Ge, Op::Ne] {
+        atoms.push(atom(alloc, &DIFFERENCE, op, 0)?)?;
+    }
+    atoms.push(atom(alloc, &SECOND, Op::Le, GREATEST)?)?;
+    atoms.push(atom(alloc, &SECOND, Op::Ge, LEAST)?)?;
+    let key = boxed(atoms)?;
+    let mut region = TreeRegion::reserve(alloc, 1)?;
+    let found = solve(&key, 1, &mut region);
+    assert!(rt; matches!(&found, Found::Refuted));
+    let nodes = [
+        Node::NeSplit { atom: 4 },
+        Node::Combo { count: 2 },
+        Node::Combo { count: 2 },
+    ];
+    assert!(rt; region.nodes() == nodes.as_slice());
+    let terms = [on_atom(3, 1), on_side(0, 1), on_atom(2, 1), on_side(0, 1)];
+    assert!(rt; region.terms() == terms.as_slice());
+    Ok(())
+}
+
+/// `v0 < v1`, `v1 < v2` and `v2 < v0`: no two close the box, the three together do.
+#[test]
+fn a_chain_is_closed_by_elimination(rt: HostRuntime) -> Result<(), Fail> {
+    let alloc = rt.alloc();
+    let first_third = [FormTerm { var: 0, coef: 1 }, FormTerm { var: 2, coef: -1 }];
+    let second_third = [FormTerm { var: 1, coef: 1 }, FormTerm { var: 2, coef: -1 }];
+    let mut atoms = Vec::new(alloc);
+    push_bounds(alloc, &mut atoms, 0)?;
+    atoms.push(atom(alloc, &DIFFERENCE, Op::Le, -1)?)?;
+    atoms.push(atom(alloc, &first_third, Op::Ge, 1)?)?;
+    push_bounds(alloc, &mut atoms, 1)?;
+    atoms.push(atom(alloc, &second_third, Op::Le, -1)?)?;
+    push_bounds(alloc, &mut atoms, 2)?;
+    let key = boxed(atoms)?;
+    let mut region = TreeRegion::reserve(alloc, 1)?;
+    let found = solve(&key, 1, &mut region);
+    assert!(rt; matches!(&found, Found::Refuted));
+    assert!(rt; region.nodes() == [Node::Combo { count: 3 }].as_slice());
+    assert_eq!(rt;
+        refutes(alloc, &key, region.nodes(), region.terms()),
+        Ok(())
+    );
+    Ok(())
+}
+
+/// Adds both bounds of a variable, as wide as they may be.
+fn push_bounds(alloc: Global, atoms: &mut Vec<KeyAtom>, var: u8) -> Result<(), Fail> {
+    let form = [FormTerm { var, coef: 1 }];
+    atoms.push(atom(alloc, &form, Op::Le, GREATEST)?)?;
+    atoms.push(atom(alloc, &form, Op::Ge, LEAST)?)?;
+    Ok(())
+}
+
+/// The atom raises the lower side of `v1` to 1, and the corner of what is left is a model.
 #[test]
 fn the_first_corner_that_satisfies_the_key_is_the_model(rt: HostRuntime) -> Result<(), Fail> {
     let alloc = rt.alloc();
     let key = apart(alloc, 0, 1, false)?;
     let mut region = TreeRegion::reserve(alloc, 4)?;
     let mark = region.mark();
-    match solve(alloc, &key, 4, &mut region)? {
+    match solve(&key, 4, &mut region) {
         Found::Model(point) => assert!(rt; point.as_slice() == [0, 1].as_slice()),
         _ => return Err(Fail::from("no model")),
     }
-    let nodes = [
-        Node::Split { var: 0, cut: 0 },
-        Node::Split { var: 1, cut: 0 },
-        Node::Combo { count: 1 },
-    ];
+    let nodes = [Node::Split { var: 1, cut: 0 }, Node::Combo { count: 1 }];
     assert!(rt; region.nodes() == nodes.as_slice());
+    assert!(rt; region.terms() == [on_atom(2, 1)].as_slice());
     region.release(mark);
     assert!(rt; region.nodes().is_empty());
     Ok(())
 }
 
+/// The bounds stay at a split by `v0 != 0`, so that the corner fails the same atom again, and no budget is left.
+#[test]
+fn one_split_leaves_a_box_open(rt: HostRuntime) -> Result<(), Fail> {
+    let alloc = rt.alloc();
+    let mut atoms = Vec::new(alloc);
+    atoms.push(atom(alloc, &FIRST, Op::Le, 9)?)?;
+    atoms.push(atom(alloc, &FIRST, Op::Ge, 0)?)?;
+    atoms.push(atom(alloc, &FIRST, Op::Ne, 0)?)?;
+    let key = boxed(atoms)?;
+    let mut region = TreeRegion::reserve(alloc, 1)?;
+    let found = solve(&key, 1, &mut region);
+    assert!(rt; matches!(&found, Found::Spent));
+    let nodes = [
+        Node::NeSplit { atom: 2 },
+        Node::Combo { count: 1 },
+        Node::Left,
+    ];
+    assert!(rt; region.nodes() == nodes.as_slice());
+    assert!(rt; region.terms() == [on_side(0, 1)].as_slice());
+    Ok(())
+}
+
+/// `v0` would have to be even and odd, which no sum of comparisons tells: the bounds close in by one step at a time.
 #[test]
 fn a_large_budget_is_spent(rt: HostRuntime) -> Result<(), Fail> {
     let alloc = rt.alloc();
-    let key = apart(alloc, LEAST, GREATEST, true)?;
+    let even = [FormTerm { var: 0, coef: 1 }, FormTerm { var: 1, coef: -2 }];
+    let odd = [FormTerm { var: 0, coef: 1 }, FormTerm { var: 2, coef: -2 }];
+    let mut atoms = Vec::new(alloc);
+    push_bounds(alloc, &mut atoms, 0)?;
+    atoms.push(atom(alloc, &even, Op::Eq, 0)?)?;
+    atoms.push(atom(alloc, &odd, Op::Eq, 1)?)?;
+    push_bounds(alloc, &mut atoms, 1)?;
+    push_bounds(alloc, &mut atoms, 2)?;
+    let key = boxed(atoms)?;
     let mut region = TreeRegion::reserve(alloc, 100_000)?;
-    let found = solve(alloc, &key, 100_000, &mut region)?;
+    let found = solve(&key, 100_000, &mut region);
     assert!(rt; matches!(&found, Found::Spent));
     assert_eq!(rt; region.nodes().len(), 200_001);
+    Ok(())
+}
+
+/// Twice as many nodes as splits and one more, eight terms for each leaf that they may leave, and the splits.
+#[test]
+fn a_region_has_the_room_that_was_reserved(rt: HostRuntime) -> Result<(), Fail> {
+    let mut region = TreeRegion::reserve(rt.alloc(), 1)?;
+    assert_eq!(rt; region.spare_nodes(), 3);
+    assert_eq!(rt; region.spare_terms(), 16);
+    assert_eq!(rt; region.spare_trail(), 1);
+    assert!(rt; region.pop_trail().is_none());
+    region.push_node(Node::Empty);
+    region.push_node(Node::Left);
+    let mark = region.mark();
+    region.push_node(Node::Empty);
+    region.release(mark);
+    assert!(rt; region.nodes() == [Node::Empty, Node::Left].as_slice());
+    assert_eq!(rt; region.spare_nodes(), 1);
+    Ok(())
+}
+
+/// The parts of the search by themselves, on the box of `v0 - v1 <= -1` over 0 to 1.
+#[test]
+fn an_open_box_is_split_by_its_cut(rt: HostRuntime) -> Result<(), Fail> {
+    let key = apart(rt.alloc(), 0, 1, false)?;
+    let bounds = Bounds::of(&key);
+    if find_combo(&key, &bounds, &[]).is_some() {
+        return Err(Fail::from("closed"));
+    }
+    let Some(difference) = key.atoms().get(2) else {
+        return Err(Fail::from("no third atom"));
+    };
+    let raised = TighterSide {
+        value: 1,
+        upper: false,
+    };
+    assert_eq!(rt; cut(&bounds, difference, 1), Some(raised));
+    assert_eq!(rt;
+        step(&key, &bounds, &[]),
+        Some(Node::Split { var: 1, cut: 0 })
+    );
     Ok(())
 }

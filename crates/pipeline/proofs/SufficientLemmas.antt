@@ -8,7 +8,7 @@ use Rattle.lin_model.specs.KeyAtom.{PlainKeyAtom}
 use Rattle.lin_model.specs.Lists.{All-at, Found-from}
 use Rattle.slicer.specs.Slices.{PlainSlice}
 use Rattle.refutation.specs.Laws.{OpenTreesAreBelowRoom}
-use Rattle.refutation.specs.SearchTree.{halving, room}
+use Rattle.refutation.specs.SearchTree.{room}
 use Rattle.cert_check.specs.declared.entry.Entry.{Entry}
 use Rattle.cert_check.specs.declared.reply.Reply.{Reply}
 use Rattle.cert_check.specs.declared.reply.Reply.TheVariants.{Hit, Solved, Unkept, Spent}
@@ -28,7 +28,7 @@ decided_here law log entries seat budget q slice key (Solved entry place n saved
 decided_here law log entries seat budget q slice key (Unkept entry n saved) is stands within = refl
 decided_here law log entries seat budget q slice key (Spent tree n) is stands within =
     let above : budget < room key =
-    law.below {rule = halving} key budget tree.nodes tree.terms is.limits is.boxed stands.open_tree in
+    law key budget tree.nodes tree.terms is.limits is.boxed stands.open_tree in
     let below : room key ≤ budget = within key is.is_key in
     absurd (omega arith)
 

@@ -116,7 +116,7 @@ beside-form : (a : PlainKeyAtom) (upper : Bool) → a.form ≡ (beside a upper).
 beside-form a true = refl
 beside-form a false = refl
 
-named-narrow : (key : List PlainKeyAtom) (sides : List Side) (on : On) (a : PlainKeyAtom) → AreNarrow key
+pub named-narrow : (key : List PlainKeyAtom) (sides : List Side) (on : On) (a : PlainKeyAtom) → AreNarrow key
     → named key sides on ≡ Some a → All (λ t. t.var < 64) a.form
 named-narrow key sides (OnAtom i) a narrow is = All-at (λ b. All (λ t. t.var < 64) b.form) key i a narrow is
 named-narrow key sides (OnSide k) a narrow is =

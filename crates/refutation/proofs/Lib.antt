@@ -11,6 +11,9 @@ mod Sums
 mod ClosedBoxes
 mod Soundness
 mod BoundsLemmas
+mod OthersLemmas
+mod CutPoints
+mod TightCuts
 mod SumLemmas
 mod LeafLemmas
 mod WalkLemmas
@@ -20,3 +23,6 @@ mod BoxedLemmas
 mod BoundedLemmas
 mod SplitLemmas
 mod RoomLemmas
+mod UnitSums
+mod PositiveSums
+mod UsedLemmas

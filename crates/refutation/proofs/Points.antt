@@ -35,7 +35,7 @@ int_eq-apart a b h =
     by_lt_z a b (λ less. inl less) (λ above. by_lt_z b a (λ more. inr more)
     (λ below. absurd (both_ways (int_eq a b) (not-true (int_eq a b) h) ((Decides-int_eq a b).1 (omega (arith, ints))))))
 
-le_test : (a b : ℤ) → a ≤ℤ b → int_le a b ≡ true
+pub le_test : (a b : ℤ) → a ≤ℤ b → int_le a b ≡ true
 le_test a b h = sym (true_is_le a b (le_out a b h))
 
 both_true : (b c : Bool) → cond b c false ≡ true → (b ≡ true) × (c ≡ true)

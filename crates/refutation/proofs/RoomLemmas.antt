@@ -23,8 +23,8 @@ use Rattle.refutation.specs.Boxed.{IsBoxed, IsBoxedIn}
 use Rattle.refutation.specs.Leaf.{combo, fixed, empty, closes}
 use Rattle.refutation.specs.Reading.{Treated, treated, closed_by, is_split, names_ne, Met, TreeReading, read_over}
 use Rattle.refutation.specs.ReadingFacts.{first_is_read}
-use Rattle.refutation.specs.SearchTree.{is_inner, is_left, inner_count, IsFairSplit, first_left, Rule, IsUndecidedBy}
-use Rattle.refutation.specs.SearchTree.{IsSearchSplitBy, KeepsOrderBy, IsOpenTreeBy, points_over, doubling, room}
+use Rattle.refutation.specs.SearchTree.{is_inner, is_left, inner_count, IsFairSplit, first_left, IsUndecided}
+use Rattle.refutation.specs.SearchTree.{IsSearchSplit, KeepsOrder, IsOpenTree, points_over, doubling, room}
 use Rattle.refutation.proofs.LookUps.{test_found}
 use Rattle.refutation.proofs.SplitLemmas.{fair-cut, left-boxed, right-boxed, halves-points, points-some}
 
@@ -202,29 +202,29 @@ chosen-shares : (key : List PlainKeyAtom) (box : PlainBox) (inner : ℕ) (b : Bo
 chosen-shares key box inner b v r is h =
     let two = chosen b v r is in subst (λ (t : Treated). Shares key box inner t.boxes) two.1 (h two.0)
 
-node-shares : (rule : Rule) (key : List PlainKeyAtom) (box : PlainBox) (node : Node) (terms : List LeafTerm)
+node-shares : (key : List PlainKeyAtom) (box : PlainBox) (node : Node) (terms : List LeafTerm)
     (r : Treated)
-    → key_width key ≤ 64 → HasRoom key box → (is_inner node ≡ true → IsSearchSplitBy rule key box node)
+    → key_width key ≤ 64 → HasRoom key box → (is_inner node ≡ true → IsSearchSplit key box node)
     → treated true key box node terms ≡ Some r → Shares key box (inner_count (node ∷ [])) r.boxes
 unfolding treated
-node-shares rule key box (Split v cut) terms r narrow h keeps is =
+node-shares key box (Split v cut) terms r narrow h keeps is =
     chosen-shares key box 1 (is_split v cut)
     (record { boxes = left_half box v cut ∷ right_half box v cut ∷ []; terms = terms }) r is
     (λ _. split-shares key box v cut narrow h (keeps refl).fair)
-node-shares rule key box (NeSplit i) terms r narrow h keeps is =
+node-shares key box (NeSplit i) terms r narrow h keeps is =
     chosen-shares key box 1 (names_ne key i)
     (record { boxes = on_side box i false ∷ on_side box i true ∷ []; terms = terms }) r is
     (ne-shares key box i h (keeps refl).fair)
-node-shares rule key box (Combo count) terms r narrow h keeps is =
+node-shares key box (Combo count) terms r narrow h keeps is =
     chosen-shares key box 0 (nat_le count (length terms) && closes key box (combo (take count terms)))
     (record { boxes = []; terms = drop count terms }) r is (λ _. closed-shares key box narrow h)
-node-shares rule key box (Fixed i) terms r narrow h keeps is =
+node-shares key box (Fixed i) terms r narrow h keeps is =
     chosen-shares key box 0 (closes key box (fixed i)) (record { boxes = []; terms = terms }) r is
     (λ _. closed-shares key box narrow h)
-node-shares rule key box Empty terms r narrow h keeps is =
+node-shares key box Empty terms r narrow h keeps is =
     chosen-shares key box 0 (closes key box empty) (record { boxes = []; terms = terms }) r is
     (λ _. closed-shares key box narrow h)
-node-shares rule key box Left terms r narrow h keeps is =
+node-shares key box Left terms r narrow h keeps is =
     chosen-shares key box 0 true (record { boxes = []; terms = terms }) r is (λ _. closed-shares key box narrow h)
 
 -- ---- all nodes
@@ -234,24 +234,24 @@ inner_count-cons : (node : Node) (nodes : List Node)
 inner_count-cons node nodes = sum_by-append (λ (n : Node). cond (is_inner n) 1 0) (node ∷ []) nodes
 
 -- the splits that are read over boxes, and these, are together no more than the weight of the boxes
-splits-few : (rule : Rule) (key : List PlainKeyAtom) (nodes : List Node) (terms : List LeafTerm) (boxes : List PlainBox)
+splits-few : (key : List PlainKeyAtom) (nodes : List Node) (terms : List LeafTerm) (boxes : List PlainBox)
     → key_width key ≤ 64 → All (HasRoom key) boxes → (read_over true key nodes terms boxes).rest ≡ []
-    → All (KeepsOrderBy rule key) (read_over true key nodes terms boxes).met
+    → All (KeepsOrder key) (read_over true key nodes terms boxes).met
     → inner_count nodes + length boxes ≤ weight_in key boxes
 unfolding read_over
-splits-few rule key [] terms boxes narrow fit no_rest order = omega (arith, weight-many key boxes narrow fit)
-splits-few rule key (node ∷ nodes) terms [] narrow fit no_rest order = absurd (cc)
-splits-few rule key (node ∷ nodes) terms (box ∷ boxes) narrow fit no_rest order =
+splits-few key [] terms boxes narrow fit no_rest order = omega (arith, weight-many key boxes narrow fit)
+splits-few key (node ∷ nodes) terms [] narrow fit no_rest order = absurd (cc)
+splits-few key (node ∷ nodes) terms (box ∷ boxes) narrow fit no_rest order =
     let on = first_is_read true key node nodes terms box boxes no_rest in
     let behind_it = read_over true key nodes on.after.terms (on.after.boxes ++ boxes) in
     let here : Met = record { node = node; box = box } in
-    let order' : All (KeepsOrderBy rule key) (here ∷ behind_it.met) = subst
-    (λ (r : TreeReading). All (KeepsOrderBy rule key) r.met) on.then_rest order in
-    let shares = node-shares rule key box node terms on.after narrow (All-head (HasRoom key) box boxes fit)
-    (All-head (KeepsOrderBy rule key) here behind_it.met order') on.is in
-    let rest = splits-few rule key nodes on.after.terms (on.after.boxes ++ boxes) narrow
+    let order' : All (KeepsOrder key) (here ∷ behind_it.met) = subst
+    (λ (r : TreeReading). All (KeepsOrder key) r.met) on.then_rest order in
+    let shares = node-shares key box node terms on.after narrow (All-head (HasRoom key) box boxes fit)
+    (All-head (KeepsOrder key) here behind_it.met order') on.is in
+    let rest = splits-few key nodes on.after.terms (on.after.boxes ++ boxes) narrow
     (All-append (HasRoom key) on.after.boxes boxes shares.room (All-tail (HasRoom key) box boxes fit)) on.rest_read
-    (All-tail (KeepsOrderBy rule key) here behind_it.met order') in
+    (All-tail (KeepsOrder key) here behind_it.met order') in
     omega (
       arith,
       shares.weight,
@@ -263,9 +263,9 @@ splits-few rule key (node ∷ nodes) terms (box ∷ boxes) narrow fit no_rest or
 
 -- ---- the root of an open tree isn't empty
 
-undecided-full : (rule : Rule) (key : List PlainKeyAtom) (box : PlainBox) → IsUndecidedBy rule key box
+undecided-full : (key : List PlainKeyAtom) (box : PlainBox) → IsUndecided key box
     → is_empty box.bounds ≡ false
-undecided-full rule key box h = false_from_ne_true (is_empty box.bounds) (λ is. h.not_by_one (empty, refl, is))
+undecided-full key box h = false_from_ne_true (is_empty box.bounds) (λ is. h.not_by_one (empty, refl, is))
 
 closed-leaves_none : (b : Bool) (terms : List LeafTerm) (r : Treated) → closed_by b terms ≡ Some r → r.boxes ≡ []
 closed-leaves_none b terms r h =
@@ -292,46 +292,46 @@ none_met key [] terms = refl
 none_met key (node ∷ nodes) terms = refl
 
 -- the only box is split, or its node is the first Left
-first-full : (rule : Rule) (key : List PlainKeyAtom) (nodes : List Node) (terms : List LeafTerm) (box : PlainBox)
+first-full : (key : List PlainKeyAtom) (nodes : List Node) (terms : List LeafTerm) (box : PlainBox)
     → (read_over true key nodes terms (box ∷ [])).rest ≡ []
-    → All (KeepsOrderBy rule key) (read_over true key nodes terms (box ∷ [])).met
-    → IsSomeAnd (first_left (read_over true key nodes terms (box ∷ [])).met) (λ (m : Met). IsUndecidedBy rule key m.box)
+    → All (KeepsOrder key) (read_over true key nodes terms (box ∷ [])).met
+    → IsSomeAnd (first_left (read_over true key nodes terms (box ∷ [])).met) (λ (m : Met). IsUndecided key m.box)
     → is_empty box.bounds ≡ false
 unfolding read_over
-first-full rule key [] terms box no_rest order first = absurd first
-first-full rule key (node ∷ nodes) terms box no_rest order first =
+first-full key [] terms box no_rest order first = absurd first
+first-full key (node ∷ nodes) terms box no_rest order first =
     let on = first_is_read true key node nodes terms box [] no_rest in
     let behind_it = read_over true key nodes on.after.terms (on.after.boxes ++ []) in
     let here : Met = record { node = node; box = box } in
-    let order' : All (KeepsOrderBy rule key) (here ∷ behind_it.met) = subst
-    (λ (r : TreeReading). All (KeepsOrderBy rule key) r.met) on.then_rest order in
-    let first' : IsSomeAnd (first_left (here ∷ behind_it.met)) (λ (m : Met). IsUndecidedBy rule key m.box) = subst
-    (λ (r : TreeReading). IsSomeAnd (first_left r.met) (λ (m : Met). IsUndecidedBy rule key m.box)) on.then_rest first
+    let order' : All (KeepsOrder key) (here ∷ behind_it.met) = subst
+    (λ (r : TreeReading). All (KeepsOrder key) r.met) on.then_rest order in
+    let first' : IsSomeAnd (first_left (here ∷ behind_it.met)) (λ (m : Met). IsUndecided key m.box) = subst
+    (λ (r : TreeReading). IsSomeAnd (first_left r.met) (λ (m : Met). IsUndecided key m.box)) on.then_rest first
     in
-    ⊎_elim (λ inner. undecided-full rule key box
-    (All-head (KeepsOrderBy rule key) here behind_it.met order' inner).undecided)
+    ⊎_elim (λ inner. undecided-full key box
+    (All-head (KeepsOrder key) here behind_it.met order' inner).undecided)
     (λ leaf. let alone : behind_it.met
     ≡ [] = ap (λ (bs : List PlainBox). (read_over true key nodes on.after.terms (bs ++ [])).met)
     (leaf-leaves_none key box node terms on.after leaf on.is) ∙ none_met key nodes on.after.terms in
     by_left (is_left node)
-    (subst (λ (ms : List Met). IsSomeAnd (first_left (here ∷ ms)) (λ (m : Met). IsUndecidedBy rule key m.box)) alone
+    (subst (λ (ms : List Met). IsSomeAnd (first_left (here ∷ ms)) (λ (m : Met). IsUndecided key m.box)) alone
     first')) (cases_Bool (is_inner node))
   where
     by_left : (b : Bool) → IsSomeAnd (cond b (Some (record { node = node; box = box })) None)
-        (λ (m : Met). IsUndecidedBy rule key m.box) → is_empty box.bounds ≡ false
-    by_left true h = undecided-full rule key box h
+        (λ (m : Met). IsUndecided key m.box) → is_empty box.bounds ≡ false
+    by_left true h = undecided-full key box h
     by_left false h = absurd h
 
 -- the theorem
-pub open-below_room : (rule : Rule) (key : List PlainKeyAtom) (splits : ℕ) (nodes : List Node) (terms : List LeafTerm)
-    → IsKey key → IsBoxed key → IsOpenTreeBy rule key splits nodes terms → splits < room key
+pub open-below_room : (key : List PlainKeyAtom) (splits : ℕ) (nodes : List Node) (terms : List LeafTerm)
+    → IsKey key → IsBoxed key → IsOpenTree key splits nodes terms → splits < room key
 unfolding room
-open-below_room rule key splits nodes terms is boxed open_tree =
-    let full = first-full rule key nodes terms (root_box key) open_tree.search.no_rest open_tree.search.in_order
+open-below_room key splits nodes terms is boxed open_tree =
+    let full = first-full key nodes terms (root_box key) open_tree.search.no_rest open_tree.search.in_order
     open_tree.first in
     let fit = All-cons (HasRoom key) (root_box key) [] (record { full = full; boxed = boxed }) (All-nil (HasRoom key))
     in
-    let few = splits-few rule key nodes terms (root_box key ∷ []) (key-narrow key is) fit open_tree.search.no_rest
+    let few = splits-few key nodes terms (root_box key ∷ []) (key-narrow key is) fit open_tree.search.no_rest
     open_tree.search.in_order in
     let whole = ap (λ (n : ℕ). points_over (key_bounds key) (range_with_len 0 (key_width key)) * n)
     (doubling-root 0 key) in

@@ -1,17 +1,14 @@
 -- What neither one atom nor the sum of two closes, by tests that compute; and that atoms of the key alone do it where
 -- there are no sides.
-use Rattle.std.proofs.Common.{◌≡◌, ⊎_elim, ℕ, zero, suc, ◌-◌, ◌<◌, pos, negsuc, Bool, true, false, cond, not, ◌&&◌}
-use Rattle.std.proofs.Common.{List, [], ◌∷◌, length, ap, sym, subst, ◌∙◌, arith}
+use Rattle.std.proofs.Common.{◌≡◌, ⊎_elim, ℕ, zero, suc, ◌<◌, Bool, true, false, not, ◌&&◌}
+use Rattle.std.proofs.Common.{List, length, sym, subst, arith}
 use Rattle.std.specs.Prelude.{IsTrue}
-use Rattle.std.proofs.lemmas.Bool.{and_parts, or_cases, not-true, both_ways, cases_eq, lt-ltb}
+use Rattle.std.proofs.lemmas.Bool.{and_parts, not-true, both_ways, cases_eq}
 use Rattle.lin_model.specs.KeyAtom.{PlainKeyAtom}
-use Rattle.refutation.specs.declared.leaf.On.{On}
-use Rattle.refutation.specs.declared.leaf.On.TheVariants.{Atom as OnAtom, Side as OnSide}
 use Rattle.refutation.specs.Bounds.{is_empty}
 use Rattle.refutation.specs.Box.{PlainBox}
-use Rattle.refutation.specs.Glance.{SomeBelow, place_count, on_place, closes_alone, unit_closes, pair_closes}
-use Rattle.refutation.specs.Laws.{ClosedByAtomsOfTheKey}
-use Rattle.refutation.specs.Leaf.{combo_closes, fixed_closes, ClosedByOneAtom, ClosedBySumOfTwo}
+use Rattle.refutation.specs.Glance.{SomeBelow, place_count, unit_closes, pair_closes}
+use Rattle.refutation.specs.Leaf.{fixed_closes, ClosedByOneAtom, ClosedBySumOfTwo}
 use Rattle.refutation.proofs.GlanceLemmas.{unit-from_one, pair-from_two}
 
 -- ---- a test of each of the first n
@@ -48,23 +45,6 @@ pub not_by_one : (key : List PlainKeyAtom) (box : PlainBox) → is_empty box.bou
 not_by_one key box full units values closed =
     none_passes (unit_closes key box) (place_count key box.sides) units
     (unit-from_one key box full (none_passes (fixed_closes key box.bounds) (length key) values) closed)
-
--- ---- one atom of the key
-
-pub by_atoms_of_key : ClosedByAtomsOfTheKey
-by_atoms_of_key key box none full h closed =
-    let some = unit-from_one key box full
-    (λ fixed. both_ways (fixed_closes key box.bounds fixed.number) (h.no_fixed fixed.number fixed.below) fixed.holds)
-    closed in
-    let i = some.number in
-    let lt : i < length key = omega (arith, some.below, ap length none) in
-    let at : on_place key i ≡ OnAtom i = ap (λ (b : Bool). cond b (OnAtom i) (OnSide (i - length key)))
-    (lt-ltb i (length key) lt) in
-    ⊎_elim (λ plus. both_ways (closes_alone key box i (pos 1))
-    (ap (λ (o : On). combo_closes key box (record { on = o; factor = pos 1 } ∷ [])) at ∙ h.positive i lt) plus)
-    (λ minus. both_ways (closes_alone key box i (negsuc 0))
-    (ap (λ (o : On). combo_closes key box (record { on = o; factor = negsuc 0 } ∷ [])) at ∙ h.negative i lt) minus)
-    (or_cases (closes_alone key box i (pos 1)) (closes_alone key box i (negsuc 0)) some.holds)
 
 -- ---- the sum of two
 

@@ -14,7 +14,7 @@ use Rattle.refutation.specs.Box.{PlainBox, root_box, on_side}
 use Rattle.refutation.specs.Leaf.{combo, fixed, empty, combo_closes, fixed_closes, summed_form, is_positive_sum}
 use Rattle.refutation.specs.Leaf.{ClosedByOneAtom, ClosedBySumOfTwo}
 use Rattle.refutation.specs.SearchOrder.{lowest_corner}
-use Rattle.refutation.specs.SearchTree.{halving, whole_order, IsUndecidedBy}
+use Rattle.refutation.specs.SearchTree.{IsUndecided}
 use Rattle.refutation.proofs.UnitTerms.{no_unit_closes, no_fixed_closes, no_two_close, not_by_one, not_by_two}
 use Rattle.refutation.proofs.Worked.{sum_of, difference, atom, on_atom, on_side as side_term, over, crossed, pinned}
 use Rattle.refutation.proofs.Worked.{one_value}
@@ -90,22 +90,12 @@ corner-fails key point i a is fails holds =
     both_ways (passes a.op a.constant (form_value a.form point)) fails
     (All-at (λ b. KeyAtomHolds b point) key i a holds is)
 
-pub undecided-halving : (key : List PlainKeyAtom) (box : PlainBox) (i : ℕ) (a : PlainKeyAtom)
-    → is_empty box.bounds ≡ false → no_unit_closes key box ≡ true → no_fixed_closes key box ≡ true
-    → slice_get key i ≡ Some a → passes a.op a.constant (form_value a.form (lowest_corner key box.bounds)) ≡ false
-    → IsUndecidedBy halving key box
-undecided-halving key box i a full units values is fails = record {
-  not_by_one = not_by_one key box full units values;
-  not_by_two = tt;
-  corner_fails = corner-fails key (lowest_corner key box.bounds) i a is fails;
-}
-
-pub undecided-whole : (key : List PlainKeyAtom) (box : PlainBox) (i : ℕ) (a : PlainKeyAtom)
+pub undecided : (key : List PlainKeyAtom) (box : PlainBox) (i : ℕ) (a : PlainKeyAtom)
     → is_empty box.bounds ≡ false → no_unit_closes key box ≡ true → no_fixed_closes key box ≡ true
     → no_two_close key box ≡ true → slice_get key i ≡ Some a
     → passes a.op a.constant (form_value a.form (lowest_corner key box.bounds)) ≡ false
-    → IsUndecidedBy whole_order key box
-undecided-whole key box i a full units values pairs is fails = record {
+    → IsUndecided key box
+undecided key box i a full units values pairs is fails = record {
   not_by_one = not_by_one key box full units values;
   not_by_two = not_by_two key box pairs;
   corner_fails = corner-fails key (lowest_corner key box.bounds) i a is fails;

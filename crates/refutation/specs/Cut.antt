@@ -7,7 +7,7 @@ use Rattle.lin_model.specs.declared.form.FormTerm.{FormTerm}
 use Rattle.lin_model.specs.declared.op.Op.TheVariants.{Le, Ge, Eq, Ne}
 use Rattle.lin_model.specs.KeyAtom.{PlainKeyAtom}
 use Rattle.lin_model.specs.Quotients.{floor_div, ceil_div}
-use Rattle.refutation.specs.Bounds.{PlainBounds, lower_of, upper_of, least, greatest}
+use Rattle.refutation.specs.Bounds.{PlainBounds, lower_of, upper_of, scaled_side, least, greatest}
 use Rattle.refutation.specs.Leaf.{coefficient_of}
 
 -- a bound of a variable, an upper one where the flag is set
@@ -37,6 +37,10 @@ lower_at_least a n = lower_at_most (neg_ℤ a) (neg_ℤ n)
 -- the terms of the form on other variables
 abbrev pub others : List FormTerm → ℕ → List FormTerm
 others form v = filter (λ t. not (t.var == v)) form
+
+-- the least value of a term, 0 where it is on v
+abbrev pub other_side : PlainBounds → ℕ → FormTerm → Option ℤ
+other_side b v t = if t.var == v then Some (pos 0) else scaled_side t.coef (lower_of b t.var) (upper_of b t.var)
 
 -- every variable of the form has both sides
 abbrev pub has_sides : PlainBounds → List FormTerm → Bool

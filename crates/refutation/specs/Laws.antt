@@ -1,20 +1,23 @@
 -- What refutations and bounds keep.
-use Rattle.std.specs.Prelude.{◌≡◌, ℕ, ◌^◌, ◌<◌, ◌≤◌, ℤ, Result, Ok, Err, pos, negsuc, ◌+ℤ◌, false, List, [], ◌∷◌}
-use Rattle.std.specs.Prelude.{length, unsigned_abs}
+use Rattle.std.specs.Prelude.{◌≡◌, ℕ, ◌^◌, ◌<◌, ◌≤◌, ℤ, Result, Ok, Err, pos, ◌+ℤ◌, ◌-ℤ◌, ◌*ℤ◌, ◌<ℤ◌, false}
+use Rattle.std.specs.Prelude.{Some, IsTrue, List, [], ◌∷◌, length, unsigned_abs}
+use Rattle.lin_model.specs.Form.{form_value}
 use Rattle.lin_model.specs.KeyAtom.{PlainKeyAtom}
 use Rattle.lin_model.specs.Key.{IsKey, KeyHolds}
 use Rattle.lin_model.specs.Bounded.{IsBounded}
 use Rattle.refutation.specs.declared.fault.TreeFault.{TreeFault}
 use Rattle.refutation.specs.declared.fault.TreeFault.TheVariants.{NodeFails, TreeEnds, TreeGoesOn, NoMemory}
 use Rattle.refutation.specs.declared.leaf.LeafTerm.{LeafTerm}
-use Rattle.refutation.specs.declared.leaf.On.TheVariants.{Atom as OnAtom}
 use Rattle.refutation.specs.declared.node.Node.{Node}
-use Rattle.refutation.specs.Bounds.{PlainBounds, with_lower, with_upper, is_empty, key_bounds}
+use Rattle.refutation.specs.declared.side.Side.{Side}
+use Rattle.refutation.specs.Bounds.{PlainBounds, with_lower, with_upper, is_empty, key_bounds, IsWithin}
 use Rattle.refutation.specs.Box.{PlainBox, root_box}
 use Rattle.refutation.specs.Boxed.{IsBoxedIn, IsBoxed, HasShortSides, IsCut}
-use Rattle.refutation.specs.Leaf.{PlainLeaf, Closes, combo_closes, fixed_closes, ClosedByOneAtom}
+use Rattle.refutation.specs.Glance.{SomeUnitCloses, SomePairCloses}
+use Rattle.refutation.specs.Leaf.{PlainLeaf, Closes, Multiple, multiples_of, combo_closes, fixed_closes}
+use Rattle.refutation.specs.Leaf.{ClosedByOneAtom, ClosedBySumOfTwo}
 use Rattle.refutation.specs.Reading.{Refutes, FailsAt, EndsEarly, GoesOn, HasNoPoint}
-use Rattle.refutation.specs.SearchTree.{Rule, IsOpenTreeBy, room}
+use Rattle.refutation.specs.SearchTree.{IsOpenTree, room}
 
 -- what each answer of the check says of the tree; want of memory is no answer
 abbrev pub IsTreeAnswer : List PlainKeyAtom → List Node → List LeafTerm → Result (Unit {0}) TreeFault → Type 0
@@ -45,10 +48,11 @@ RefutedHasNoPoint =
 abbrev pub BoundedIsBoxed : Type 0
 BoundedIsBoxed = (key : List PlainKeyAtom) → IsKey key → IsBounded key → IsBoxed key
 
--- an open tree of a boxed key has fewer splits than the key has room, whichever rule it splits by
-pub record OpenTreesAreBelowRoom : Type 0 where
-  pub below : {rule : Rule} (key : List PlainKeyAtom) (splits : ℕ) (nodes : List Node) (terms : List LeafTerm)
-      → IsKey key → IsBoxed key → IsOpenTreeBy rule key splits nodes terms → splits < room key
+-- an open tree of a boxed key has fewer splits than the key has room
+abbrev pub OpenTreesAreBelowRoom : Type 0
+OpenTreesAreBelowRoom =
+    (key : List PlainKeyAtom) (splits : ℕ) (nodes : List Node) (terms : List LeafTerm) → IsKey key → IsBoxed key
+    → IsOpenTree key splits nodes terms → splits < room key
 
 -- the halves of a cut are as the whole: not empty, boxed and short; and so is the cut short
 pub record AreProperHalves (b : PlainBounds) (v : ℕ) (cut : ℤ) : Type 0 where
@@ -74,15 +78,31 @@ RootsOfModelsStayOpen =
     (key : List PlainKeyAtom) (leaf : PlainLeaf) (point : List ℤ) → IsKey key → KeyHolds key point
     → ¬ Closes key (root_box key) leaf
 
--- no atom of the key closes the box, by the factor 1, by -1, or because its form has one value
-pub record NoAtomOfTheKeyCloses (key : List PlainKeyAtom) (box : PlainBox) : Type 0 where
-  pub positive : (i : ℕ) → i < length key → combo_closes key box (record { on = OnAtom i; factor = pos 1 } ∷ []) ≡ false
-  pub negative : (i : ℕ) → i < length key → combo_closes key box (record { on = OnAtom i; factor = negsuc 0 } ∷ [])
-      ≡ false
-  pub no_fixed : (i : ℕ) → i < length key → fixed_closes key box.bounds i ≡ false
+-- one atom closes a box that isn't empty only where a form has one value that fails, or a factor 1 or -1 closes it
+abbrev pub OneIsTried : Type 0
+OneIsTried =
+    (key : List PlainKeyAtom) (box : PlainBox) → is_empty box.bounds ≡ false
+    → ((i : ℕ) → i < length key → fixed_closes key box.bounds i ≡ false) → ¬ SomeUnitCloses key box
+    → ¬ ClosedByOneAtom key box
 
--- so one atom doesn't close it at all, if it isn't empty and has no sides
-abbrev pub ClosedByAtomsOfTheKey : Type 0
-ClosedByAtomsOfTheKey =
-    (key : List PlainKeyAtom) (box : PlainBox) → box.sides ≡ [] → is_empty box.bounds ≡ false
-    → NoAtomOfTheKeyCloses key box → ¬ ClosedByOneAtom key box
+-- the sum of two closes a box only where such factors of two do
+abbrev pub TwoAreTried : Type 0
+TwoAreTried = (key : List PlainKeyAtom) (box : PlainBox) → ¬ SomePairCloses key box → ¬ ClosedBySumOfTwo key box
+
+-- what the multiples are worth at a point, each less its constant
+abbrev pub worth : List Multiple → List ℤ → ℤ
+worth [] point = pos 0
+worth (m ∷ ms) point = ((m.weight *ℤ form_value m.form point) -ℤ (m.weight *ℤ m.constant)) +ℤ worth ms point
+
+-- the terms stand for multiples that are worth more than 0 at the point
+pub record IsPositiveAt (key : List PlainKeyAtom) (sides : List Side) (terms : List LeafTerm) (point : List ℤ) : Type 0
+  where
+    pub multiples : List Multiple
+    pub are : multiples_of key sides terms ≡ Some multiples
+    pub positive : pos 0 <ℤ worth multiples point
+
+-- the sum of a combination that closes a box is positive at each point within the bounds
+abbrev pub CombinationsArePositive : Type 0
+CombinationsArePositive =
+    (key : List PlainKeyAtom) (box : PlainBox) (terms : List LeafTerm) (point : List ℤ) → IsKey key
+    → IsWithin box.bounds point → IsTrue (combo_closes key box terms) → IsPositiveAt key box.sides terms point

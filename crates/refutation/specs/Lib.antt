@@ -8,8 +8,8 @@ pub mod Reading
 pub mod Tree
 pub mod Walk
 pub mod Cut
+pub mod CutLaws
 pub mod SearchOrder
-pub mod Halving
 pub mod SearchTree
 pub mod Laws
 pub mod Facts

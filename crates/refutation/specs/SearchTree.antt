@@ -12,7 +12,6 @@ use Rattle.refutation.specs.Box.{PlainBox, is_ne, left_half, right_half}
 use Rattle.refutation.specs.Leaf.{ClosedByOneAtom, ClosedBySumOfTwo}
 use Rattle.refutation.specs.Reading.{Met, TreeReading, tree_reading}
 use Rattle.refutation.specs.SearchOrder.{lowest_corner, step}
-use Rattle.refutation.specs.Halving.{IsHalving}
 
 -- ---- nodes
 
@@ -71,78 +70,39 @@ undecided_boxes key nodes terms = (search_reading key nodes terms).boxes
 abbrev pub first_left : List Met → Option Met
 first_left met = find (λ m. is_left m.node) met
 
--- ---- what hangs on the rule of splitting
-
--- which split the search puts at a box: its halving, where no one atom closes it, or the one of the search order, where
--- no sum of two does either
-pub data Rule : Type 0 where
-  halving : Rule
-  whole_order : Rule
-
--- the fact, where the search order is asked whole
-abbrev pub OnWholeOrder : Rule → Type 0 → Type 0
-OnWholeOrder halving P = Unit {0}
-OnWholeOrder whole_order P = P
+-- ---- search trees
 
 -- a box that has to be split: nothing closes it at a glance, and its lowest corner isn't a model
-pub record IsUndecidedBy (rule : Rule) (key : List PlainKeyAtom) (box : PlainBox) : Type 0 where
+pub record IsUndecided (key : List PlainKeyAtom) (box : PlainBox) : Type 0 where
   pub not_by_one : ¬ ClosedByOneAtom key box
-  pub not_by_two : OnWholeOrder rule (¬ ClosedBySumOfTwo key box)
+  pub not_by_two : ¬ ClosedBySumOfTwo key box
   pub corner_fails : ¬ KeyHolds key (lowest_corner key box.bounds)
 
--- the node is the one that the rule puts at this box
-abbrev pub IsInOrderBy : Rule → List PlainKeyAtom → PlainBox → Node → Type 0
-IsInOrderBy halving key box node = IsHalving key box.bounds node
-IsInOrderBy whole_order key box node = step key box ≡ Some node
-
--- an inner node where the rule puts one: fair, at a box that has to be split, and the one that is in order
-pub record IsSearchSplitBy (rule : Rule) (key : List PlainKeyAtom) (box : PlainBox) (node : Node) : Type 0 where
+-- an inner node where a search puts one: fair, at a box that has to be split, and the one that the box asks for
+pub record IsSearchSplit (key : List PlainKeyAtom) (box : PlainBox) (node : Node) : Type 0 where
   pub fair : IsFair key box node
-  pub undecided : IsUndecidedBy rule key box
-  pub in_order : IsInOrderBy rule key box node
+  pub undecided : IsUndecided key box
+  pub in_order : step key box ≡ Some node
 
--- where an inner node is met, it is the one that the rule puts at its box
-abbrev pub KeepsOrderBy : Rule → List PlainKeyAtom → Met → Type 0
-KeepsOrderBy rule key m = is_inner m.node ≡ true → IsSearchSplitBy rule key m.box m.node
+-- where an inner node is met, it is the one that a search puts at its box
+abbrev pub KeepsOrder : List PlainKeyAtom → Met → Type 0
+KeepsOrder key m = is_inner m.node ≡ true → IsSearchSplit key m.box m.node
 
--- each node and each term is read, and the inner nodes are those of a search; boxes may be left
-pub record IsSearchTreeBy (rule : Rule) (key : List PlainKeyAtom) (nodes : List Node) (terms : List LeafTerm) : Type 0
-  where
-    pub no_rest : (search_reading key nodes terms).rest ≡ []
-    pub no_terms : (search_reading key nodes terms).terms ≡ []
-    pub in_order : All (KeepsOrderBy rule key) (search_reading key nodes terms).met
+-- each node and each term is read, and the inner nodes are those of a search that begins with the root box of the key;
+-- boxes may be left
+pub record IsSearchTree (key : List PlainKeyAtom) (nodes : List Node) (terms : List LeafTerm) : Type 0 where
+  pub no_rest : (search_reading key nodes terms).rest ≡ []
+  pub no_terms : (search_reading key nodes terms).terms ≡ []
+  pub in_order : All (KeepsOrder key) (search_reading key nodes terms).met
 
--- a search tree with just this many inner nodes, all before its first Left, that decides every box; the box at its
--- first Left is one that has to be split
-pub record IsOpenTreeBy (rule : Rule) (key : List PlainKeyAtom) (splits : ℕ) (nodes : List Node)
-    (terms : List LeafTerm) : Type 0 where
-  pub search : IsSearchTreeBy rule key nodes terms
+-- a tree of a search that was ended after just this many splits: all inner nodes stand before its first Left, it decides
+-- every box, and the box at its first Left is one that has to be split
+pub record IsOpenTree (key : List PlainKeyAtom) (splits : ℕ) (nodes : List Node) (terms : List LeafTerm) : Type 0 where
+  pub search : IsSearchTree key nodes terms
   pub inner : inner_count nodes ≡ splits
   pub no_boxes : undecided_boxes key nodes terms ≡ []
   pub left_last : NoInnerAfterLeft nodes
-  pub first : IsSomeAnd (first_left (search_reading key nodes terms).met) (λ (m : Met). IsUndecidedBy rule key m.box)
-
--- ---- the search halves
-
--- a box that the search has to split
-abbrev pub IsUndecided : List PlainKeyAtom → PlainBox → Type 0
-IsUndecided key box = IsUndecidedBy halving key box
-
--- an inner node where the search puts one
-abbrev pub IsSearchSplit : List PlainKeyAtom → PlainBox → Node → Type 0
-IsSearchSplit key box node = IsSearchSplitBy halving key box node
-
--- where an inner node is met, it is the one that the search puts at its box
-abbrev pub KeepsOrder : List PlainKeyAtom → Met → Type 0
-KeepsOrder key m = KeepsOrderBy halving key m
-
--- the nodes and terms are those of a search that begins with the root box of the key; boxes may be left
-abbrev pub IsSearchTree : List PlainKeyAtom → List Node → List LeafTerm → Type 0
-IsSearchTree key nodes terms = IsSearchTreeBy halving key nodes terms
-
--- a tree of a search that was ended after just this many splits, and marks the boxes that it leaves
-abbrev pub IsOpenTree : List PlainKeyAtom → ℕ → List Node → List LeafTerm → Type 0
-IsOpenTree key splits nodes terms = IsOpenTreeBy halving key splits nodes terms
+  pub first : IsSomeAnd (first_left (search_reading key nodes terms).met) (λ (m : Met). IsUndecided key m.box)
 
 -- ---- how many splits a search may need
 

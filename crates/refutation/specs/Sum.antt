@@ -1,6 +1,7 @@
 -- The code's form of a sum of multiples: one coefficient for each variable.
 use Rattle.std.specs.Prelude.{◌≡◌, ℕ, ◌+◌, ◌*◌, ◌^◌, ◌<◌, ◌≤◌, ℤ, pos, ◌+ℤ◌, ◌-ℤ◌, ◌*ℤ◌, Bool, true, false, int_lt}
 use Rattle.std.specs.Prelude.{Option, Some, None, List, map, length, unsigned_abs, slice_index_or}
+use Rattle.std.specs.Int.{bit_at}
 use Rattle.std.specs.Option.{option_map_or}
 use Rattle.lin_model.specs.declared.form.FormTerm.{FormTerm}
 use Rattle.refutation.specs.Bounds.{PlainBounds, variables, least}
@@ -41,3 +42,7 @@ pub record IsSum (s : PlainSum) : Type 0 where
   pub few : s.count ≤ 8
   pub coefs : (v : ℕ) → v < 64 → unsigned_abs (coef_at s v) ≤ 2 ^ 77 * s.count
   pub constant : unsigned_abs s.constant ≤ 2 ^ 82 * s.count
+
+-- a coefficient whose variable has no bit is 0
+abbrev pub MarksUsed : ℕ → List ℤ → Type 0
+MarksUsed used coefs = (v : ℕ) → v < 64 → bit_at used v ≡ 0 → slice_index_or coefs v (pos 0) ≡ pos 0

@@ -1,15 +1,16 @@
 //! Bounds: how far down and how far up each of 64 variables may go.
 
 ghost use Rattle.std.specs.Prelude.{◌≡◌, ◌==◌, if◌then◌else◌, None, replicate, slice_set, ◌+◌, ◌^◌, ◌<◌, ◌≤◌, ℕ};
-ghost use Rattle.std.specs.Prelude.{unsigned_abs};
+ghost use Rattle.std.specs.Prelude.{unsigned_abs, IfSome};
 ghost use Rattle.lin_model.specs.KeyAtom.{AscendsBelow64};
 ghost use Rattle.lin_model.specs.Key.{IsKey};
 ghost use Rattle.refutation.specs.Boxed.{HasShortSides};
+ghost use Rattle.refutation.specs.Cut.{others};
 ghost use Rattle.refutation.specs.Bounds.{AreBounds, IsSide, lower_of, upper_of, lower_from, upper_from, tighter_lower};
 ghost use Rattle.refutation.specs.Bounds.{tighter_upper, with_lower, with_upper, key_bounds, is_empty, least, greatest};
 
 use crate::one_side::{crosses, lower_by, tighter_lower, tighter_upper, upper_by, variable_alone};
-use crate::value::least_within;
+use crate::value::{least_besides, least_within};
 use lin_model::{Form, Key, KeyAtom};
 use std::marker::Model;
 
@@ -121,6 +122,33 @@ impl Bounds {
         ensures { result ≡ greatest form.now self.now }
     {
         least_within(form.terms(), &self.hi, &self.lo)
+    }
+
+    /// The least value that the terms of a form on other variables than this one take within the bounds, or None exactly
+    /// where that hangs on a side that isn't there.
+    pub fn least_besides(&self, form: &Form, var: u8) -> Option<i128>
+        requires { AscendsBelow64 form.now }
+        ensures value { result ≡ least (others form.now var) self.now }
+        ensures size { IfSome result (λ n. unsigned_abs n ≤ 2 ^ 120) }
+    {
+        least_besides(form.terms(), var, &self.lo, &self.hi)
+    }
+
+    /// The greatest value that the terms of a form on other variables than this one take within the bounds, or None
+    /// exactly where that hangs on a side that isn't there.
+    pub fn greatest_besides(&self, form: &Form, var: u8) -> Option<i128>
+        requires { AscendsBelow64 form.now }
+        ensures value { result ≡ greatest (others form.now var) self.now }
+        ensures size { IfSome result (λ n. unsigned_abs n ≤ 2 ^ 120) }
+    {
+        least_besides(form.terms(), var, &self.hi, &self.lo)
+    }
+
+    /// The law that bounds keep their limits: 64 variables, and sides of at most 2^32 + 1 in size.
+    pub fn keeps_limits(&self)
+        ensures { AreBounds self.now }
+    {
+        let _lower = &self.lo;
     }
 
     /// The lower side of a variable, None where it is missing.

@@ -161,7 +161,7 @@ fn add_weighted(sum: &mut Sum, form: &[FormTerm], op: Op, constant: i64, factor:
 
 /// The multiple of `form - constant` that a factor stands for: its negative on `>=`, where `constant - form` is meant.
 /// None where the factor isn't lawful.
-fn weight(op: Op, factor: i64) -> Option<i64>
+pub fn weight(op: Op, factor: i64) -> Option<i64>
     ensures value { result ≡ weight op factor }
     ensures size { IfSome result (λ w. unsigned_abs w ≤ 2 ^ 31) }
 {

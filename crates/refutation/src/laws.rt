@@ -1,7 +1,8 @@
 //! Laws of refutations and bounds, each the contract of a function that does nothing.
+ghost use Rattle.refutation.specs.CutLaws.{CutsKeepPoints, CutsAreTight};
 ghost use Rattle.refutation.specs.Laws.{EachTreeHasOneAnswer, RefutedHasNoPoint, BoundedIsBoxed, OpenTreesAreBelowRoom};
 ghost use Rattle.refutation.specs.Laws.{CutsLeaveProperHalves, KeyBoundsAreShort, RootsOfModelsStayOpen};
-ghost use Rattle.refutation.specs.Laws.{ClosedByAtomsOfTheKey};
+ghost use Rattle.refutation.specs.Laws.{OneIsTried, TwoAreTried, CombinationsArePositive};
 
 /// Each tree refutes the key, fails at one node, ends early or goes on, and just one of these: so each has one answer
 /// of `refutes` that is right.
@@ -40,8 +41,25 @@ pub fn roots_of_models_stay_open()
     ensures { RootsOfModelsStayOpen }
 {}
 
-/// A box that isn't empty and has no sides is closed by one atom only where an atom of the key closes it, by the
-/// factor 1 or -1 or because its form has one value.
-pub fn closed_by_atoms_of_the_key()
-    ensures { ClosedByAtomsOfTheKey }
+/// What closes a box at a glance is among what is tried: the forms of one value and the factors 1 and -1 of one, or of
+/// two, of the atoms and sides in their row.
+pub fn glances_try_units()
+    ensures one { OneIsTried }
+    ensures two { TwoAreTried }
+{}
+
+/// The sum of a combination that closes a box is positive at each point within the bounds.
+pub fn combinations_are_positive()
+    ensures { CombinationsArePositive }
+{}
+
+/// Every point within bounds that satisfies an atom keeps the bound that the atom gives of a variable.
+pub fn cuts_keep_points()
+    ensures { CutsKeepPoints }
+{}
+
+/// For `<=` and `>=`, where the bounds aren't empty, some point within them that satisfies the atom has just the value of
+/// the cut.
+pub fn cuts_are_tight()
+    ensures { CutsAreTight }
 {}

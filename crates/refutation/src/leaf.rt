@@ -4,8 +4,8 @@ ghost use Rattle.std.specs.Prelude.{◌≡◌};
 
 use arrayvec::ArrayVec;
 
-/// What a term of a combination names, by its number from 0.
-#[derive(Clone, Copy, Debug, PartialEq, Eq)]
+/// What a term of a combination names, by its number from 0. Atoms come before sides.
+#[derive(Clone, Copy, Debug, PartialEq, Eq, PartialOrd, Ord)]
 pub enum On {
     /// An atom of the key.
     Atom(u16),

@@ -4,6 +4,7 @@
 mod bounds;
 mod checker;
 mod closing;
+mod comparison;
 mod fault;
 mod glance;
 mod laws;
@@ -19,13 +20,14 @@ mod walk;
 
 pub use bounds::Bounds;
 pub use checker::refutes;
-pub use closing::closes;
+pub use closing::{closes, fixed_closes, weight};
+pub use comparison::{Comparison, closes_alone, comparison_of};
 pub use fault::TreeFault;
 pub use glance::{closed_by_one_atom, closed_by_sum_of_two};
 pub use laws::{
-    bounded_keys_are_boxed, closed_by_atoms_of_the_key, cuts_leave_proper_halves,
-    each_tree_has_one_answer, key_bounds_are_short, open_trees_are_below_room,
-    refuted_keys_have_no_point, roots_of_models_stay_open,
+    bounded_keys_are_boxed, combinations_are_positive, cuts_are_tight, cuts_keep_points,
+    cuts_leave_proper_halves, each_tree_has_one_answer, glances_try_units, key_bounds_are_short,
+    open_trees_are_below_room, refuted_keys_have_no_point, roots_of_models_stay_open,
 };
 pub use leaf::{Leaf, LeafTerm, On};
 pub use node::Node;

@@ -6,29 +6,34 @@ ghost use Rattle.std.specs.List.{All};
 ghost use Rattle.lin_model.specs.KeyAtom.{IsCanonicalForm};
 ghost use Rattle.refutation.specs.Bounds.{lower_of, upper_of, scaled_side, least};
 ghost use Rattle.refutation.specs.Leaf.{coefficient_of};
-ghost use Rattle.refutation.specs.Sum.{PlainSum, AddsMultiple, is_positive_within, coef_at, dense_form};
+ghost use Rattle.std.specs.Prelude.{◌≢◌};
+ghost use Rattle.std.specs.Int.{bit_at};
+ghost use Rattle.refutation.specs.Sum.{PlainSum, AddsMultiple, is_positive_within, coef_at, dense_form, MarksUsed};
 
 use crate::bounds::Bounds;
 use crate::value::scaled_side;
 use lin_model::FormTerm;
 use std::marker::Model;
 
-/// A sum of at most eight multiples: a coefficient for each of 64 variables, less a constant.
+/// A sum of at most eight multiples: a coefficient for each of 64 variables, less a constant. A bit for each variable
+/// tells which occur, so that to add to it and to test it costs the terms alone.
 #[derive(Drop)]
 pub struct Sum {
     coefs: [i128; 64],
     constant: i128,
     count: u8,
+    used: u64,
 }
 
 impl Model for Sum {
-    ghost use Rattle.refutation.specs.Sum.{PlainSum, IsSum};
+    ghost use Rattle.refutation.specs.Sum.{PlainSum, IsSum, MarksUsed};
 
     ghost Value = { PlainSum };
 
     ghost view = { λ s. record { coefs = s.coefs; constant = s.constant; count = s.count } };
 
-    ghost invariant = { λ s. IsSum (record { coefs = s.coefs; constant = s.constant; count = s.count }) };
+    ghost invariant = { λ s. IsSum (record { coefs = s.coefs; constant = s.constant; count = s.count })
+        × MarksUsed s.used s.coefs };
 }
 
 impl Sum {
@@ -42,6 +47,7 @@ impl Sum {
             coefs: zeros(),
             constant: 0,
             count: 0,
+            used: 0,
         }
     }
 
@@ -57,13 +63,14 @@ impl Sum {
         add_scaled(&mut self.coefs, form, weight);
         self.constant = sum_of(self.constant, weighted(weight, constant));
         self.count += 1;
+        self.used = marked(self.used, form);
     }
 
     /// Whether the least value of the sum within the bounds is known and positive.
     pub fn is_positive(&self, bounds: &Bounds) -> bool
         ensures { result ≡ is_positive_within self.now bounds.now }
     {
-        match least_of(&self.coefs, bounds) {
+        match least_of(&self.coefs, self.used, bounds) {
             None => false,
             Some(least) => least - self.constant > 0,
         }
@@ -120,18 +127,66 @@ fn wide_product(a: i64, b: i64) -> i128
     i128::from(a) * i128::from(b)
 }
 
-/// The least value of these coefficients' sum within the bounds.
-fn least_of(coefs: &[i128; 64], bounds: &Bounds) -> Option<i128>
-    requires { (v : ℕ) → v < 64 → unsigned_abs (slice_index_or coefs.now v (pos 0)) ≤ 2 ^ 80 }
+/// The bits with those of the form's variables.
+fn marked(used: u64, form: &[FormTerm]) -> u64
+    requires { IsCanonicalForm form.now }
+    ensures { (v : ℕ) → v < 64 → bit_at result v ≡ 0
+        → (bit_at used v ≡ 0) × (coefficient_of form.now v ≡ pos 0) }
+{
+    let mut bits = used;
+    for term in form {
+        bits = with_bit(bits, term.var);
+    }
+    bits
+}
+
+/// The bits with this one.
+fn with_bit(bits: u64, place: u8) -> u64
+    requires { place < 64 }
+    ensures same { bit_at result place ≡ 1 }
+    ensures others { (v : ℕ) → v ≢ place → bit_at result v ≡ bit_at bits v }
+{
+    bits | 1 << place
+}
+
+/// The bits without this one.
+fn without_bit(bits: u64, place: u8) -> u64
+    requires { place < 64 }
+    ensures same { bit_at result place ≡ 0 }
+    ensures others { (v : ℕ) → v < 64 → v ≢ place → bit_at result v ≡ bit_at bits v }
+{
+    bits & !(1 << place)
+}
+
+/// The lowest of the bits.
+fn lowest(bits: u64) -> u8
+    requires { 0 < bits }
+    ensures place { result < 64 }
+    ensures set { bit_at bits result ≡ 1 }
+    ensures below { (v : ℕ) → v < result → bit_at bits v ≡ 0 }
+{
+    bits.trailing_zeros() as u8
+}
+
+/// The least value of these coefficients' sum within the bounds. Those that aren't used are 0.
+fn least_of(coefs: &[i128; 64], used: u64, bounds: &Bounds) -> Option<i128>
+    requires size { (v : ℕ) → v < 64 → unsigned_abs (slice_index_or coefs.now v (pos 0)) ≤ 2 ^ 80 }
+    requires used { MarksUsed used coefs.now }
     ensures value { result ≡ least (dense_form coefs.now) bounds.now }
     ensures size { IfSome result (λ n. unsigned_abs n ≤ 2 ^ 120) }
 {
     let mut sum = 0;
-    for var in 0..64u8 {
+    let mut rest = used;
+    for _turn in 0..64u8 {
+        if rest == 0 {
+            return Some(sum);
+        }
+        let var = lowest(rest);
         match least_of_variable(coefs, bounds, var) {
             None => return None,
             Some(value) => sum += value,
         }
+        rest = without_bit(rest, var);
     }
     Some(sum)
 }

@@ -4,6 +4,7 @@ ghost use Rattle.std.specs.Prelude.{◌≡◌, ◌+◌, ◌*◌, ◌^◌, ◌<�
 ghost use Rattle.std.specs.Prelude.{slice_index_or};
 ghost use Rattle.std.specs.List.{All};
 ghost use Rattle.refutation.specs.Bounds.{IsSide, least, scaled_side};
+ghost use Rattle.refutation.specs.Cut.{others, other_side};
 
 use lin_model::FormTerm;
 
@@ -27,6 +28,49 @@ pub fn least_within(
         }
     }
     Some(sum)
+}
+
+/// The least value of the terms on other variables than this one, or the greatest one where the upper sides come first.
+pub fn least_besides(
+    terms: &[FormTerm],
+    var: u8,
+    lo: &[Option<i64>; 64],
+    hi: &[Option<i64>; 64],
+) -> Option<i128>
+    requires few { length terms.now ≤ 64 }
+    requires narrow { All (λ t. t.var < 64) terms.now }
+    requires lower { All IsSide lo.now }
+    requires upper { All IsSide hi.now }
+    ensures value { result ≡ least (others terms.now var) (record { lower = lo.now; upper = hi.now }) }
+    ensures size { IfSome result (λ n. unsigned_abs n ≤ 2 ^ 120) }
+{
+    let mut sum = 0;
+    for term in terms {
+        match least_of_other(*term, var, lo, hi) {
+            None => return None,
+            Some(value) => sum += value,
+        }
+    }
+    Some(sum)
+}
+
+/// The least value of one term within the sides, 0 where it is on this variable.
+fn least_of_other(
+    term: FormTerm,
+    var: u8,
+    lo: &[Option<i64>; 64],
+    hi: &[Option<i64>; 64],
+) -> Option<i128>
+    requires narrow { term.var < 64 }
+    requires lower { All IsSide lo.now }
+    requires upper { All IsSide hi.now }
+    ensures value { result ≡ other_side (record { lower = lo.now; upper = hi.now }) var term }
+    ensures size { IfSome result (λ n. unsigned_abs n ≤ 2 ^ 114) }
+{
+    if term.var == var {
+        return Some(0);
+    }
+    least_of_term(term, lo, hi)
 }
 
 /// The least value of one term within the sides.

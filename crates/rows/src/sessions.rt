@@ -58,13 +58,39 @@ x - y <= -1
 y - x <= -1
 ";
 
+/// `x` and `y` are to be equal, and not equal.
+const EQUAL_APART: &str = "var x -2147483648 2147483647
+var y -2147483648 2147483647
+x <= y
+y <= x
+x != y
+";
+
+/// Each of three is to be below the next, and the last below the first.
+const CHAIN: &str = "var x -2147483648 2147483647
+var y -2147483648 2147483647
+var z -2147483648 2147483647
+x < y
+y < z
+z < x
+";
+
+/// The corner of the bounds fails the comparison before a split by it and after.
+const TWICE: &str = "var x 0 9
+x != 0
+";
+
 #[test]
 fn queries_are_answered_within_their_budget(rt: HostRuntime) -> Result<(), Fail> {
     let crossed = "var x 0 1\nvar y 0 1\nx - y <= -1\ny - x <= -1\n";
+    let refuted = (0, "unsat slice 1 [new 0]");
+    expect_query(&rt, "solve|--budget|1", WIDE, refuted)?;
+    expect_query(&rt, "solve|--budget|1", EQUAL_APART, refuted)?;
+    expect_query(&rt, "solve|--budget|1", CHAIN, refuted)?;
     expect_query(
         &rt,
         "solve|--budget|1",
-        WIDE,
+        TWICE,
         (3, "unknown slice 1 [spent]"),
     )?;
     expect_query(
@@ -153,10 +179,10 @@ end
 fn an_unknown_answer_among_others_makes_the_status_3(rt: HostRuntime) -> Result<(), Fail> {
     let alloc = rt.alloc();
     let text = format!(in alloc;
-        "green 1\nexecutor\nquery\nvar a 1 1\nquery\n{WIDE}var z 5 5\nexecutor\nquery\nvar b 2 2\nend\n"
+        "green 1\nexecutor\nquery\nvar a 0 0\nquery\n{TWICE}var z 5 5\nexecutor\nquery\nvar b 2 2\nend\n"
     )?;
     let answers =
-        "green answers 1\nexecutor\nsat a=1 [new 0]\nunknown slice 1 [spent] [new 1]\nexecutor\nsat b=2 [new 2]\nend\n";
+        "green answers 1\nexecutor\nsat a=0 [new 0]\nunknown slice 1 [spent] [new 1]\nexecutor\nsat b=2 [new 2]\nend\n";
     expect_text(&rt, "solve|--budget=1", text.as_str(), (3, answers))
 }
 

@@ -1,13 +1,14 @@
 -- What solving a key comes to.
-use Rattle.std.specs.Prelude.{◌≡◌, ℕ, ℤ, List, [], length}
+use Rattle.std.specs.Prelude.{◌≡◌, ℕ, ◌+◌, ◌*◌, ℤ, List, [], length}
 use Rattle.lin_model.specs.Key.{KeyHolds, key_width}
 use Rattle.lin_model.specs.KeyAtom.{PlainKeyAtom}
 use Rattle.lin_model.specs.Point.{IsPoint}
 use Rattle.refutation.specs.SearchTree.{IsOpenTree}
-use Rattle.refutation.specs.Tree.{PlainTree}
 use Rattle.refutation.specs.declared.leaf.LeafTerm.{LeafTerm}
 use Rattle.refutation.specs.declared.node.Node.{Node}
+use Rattle.tree_pool.specs.Region.{blank}
 use Rattle.box_solver.specs.Answer.{IsModelTree, IsRefutingTree}
+use Rattle.box_solver.specs.Region.{PlainTreeRegion}
 use Rattle.cert_check.specs.declared.entry.Entry.{Entry}
 use Rattle.cert_check.specs.declared.entry.Entry.TheVariants.{Sat, Unsat}
 use Rattle.cert_check.specs.Decides.{Decides, IsChecked}
@@ -42,6 +43,13 @@ abbrev pub IsEvidence : ℕ → List PlainKeyAtom → Evidence → Type 0
 IsEvidence budget key (Decided entry) = IsEntryFor budget key entry
 IsEvidence budget key (Open tree) = IsOpenTree key budget tree.nodes tree.terms
 
--- a region without a tree
-abbrev pub IsBlank : PlainTree → Type 0
-IsBlank region = region ≡ record { nodes = []; terms = [] }
+-- the region that was reserved for a budget, in which nothing stands
+abbrev pub IsBlank : ℕ → PlainTreeRegion → Type 0
+IsBlank budget region = region ≡ blank (2 * budget + 1) (8 * (budget + 1)) budget
+
+-- a tree stands in that region, and the trail is empty
+pub record HoldsTree (budget : ℕ) (region : PlainTreeRegion) : Type 0 where
+  pub nodes : region.spare_nodes + length region.nodes ≡ 2 * budget + 1
+  pub terms : region.spare_terms + length region.terms ≡ 8 * (budget + 1)
+  pub no_trail : region.trail ≡ []
+  pub spare_trail : region.spare_trail ≡ budget

@@ -89,10 +89,10 @@ pub fn fly(
     requires boxed { IsBoxed key.now }
     requires some { 1 ≤ budget }
     requires few { budget ≤ 100000 }
-    requires blank { IsBlank region.old }
+    requires blank { IsBlank budget region.old }
     ensures reply { IfOk result (RepliesByFlight budget key.now core.old core.new) }
     ensures in_vain { OnErr result (FliesInVain key.now core.old core.new) }
-    ensures blank { IsBlank region.new }
+    ensures blank { IsBlank budget region.new }
 {
     begin(alloc, core, key)?;
     match find_evidence(alloc, key, budget, region) {

@@ -34,7 +34,7 @@ impl Model for LocalStore {
 
     ghost view = { λ store. record { core = store.core; budget = store.budget } };
 
-    ghost invariant = { λ store. IsStore (record { core = store.core; budget = store.budget }) × IsBlank store.region };
+    ghost invariant = { λ store. IsStore (record { core = store.core; budget = store.budget }) × IsBlank store.budget store.region };
 }
 
 impl LocalStore {
@@ -108,12 +108,12 @@ fn answer_key(
     requires boxed { IsBoxed key.now }
     requires some { 1 ≤ budget }
     requires few { budget ≤ 100000 }
-    requires blank { IsBlank region.old }
+    requires blank { IsBlank budget region.old }
     ensures asks { IfOk result (λ reply. Asks budget key.now reply (seat_of_core core.old) (seat_of_core core.new)) }
     ensures searched { IfOk result (IsSearchedWithin budget key.now) }
     ensures in_vain { OnErr result (FailsInVain key.now (seat_of_core core.old) (seat_of_core core.new)) }
     ensures own { IsOwn core.new }
-    ensures blank { IsBlank region.new }
+    ensures blank { IsBlank budget region.new }
 {
     cores_take_turns();
     match hit(core, key)? {

@@ -4,7 +4,7 @@ ghost use Rattle.lin_model.specs.Point.{IsPoint};
 ghost use Rattle.refutation.specs.Boxed.{IsBoxed};
 ghost use Rattle.refutation.specs.Reading.{Refutes};
 ghost use Rattle.box_solver.specs.Answer.{IsRefutingTree};
-ghost use Rattle.shared_store.specs.Solving.{IsBlank, IsEntryFor, IsEvidence, IsModelPoint, IsModelWithin};
+ghost use Rattle.shared_store.specs.Solving.{IsBlank, HoldsTree, IsEntryFor, IsEvidence, IsModelPoint, IsModelWithin};
 
 use box_solver::{Found, TreeRegion, solve};
 use cert_check::{Entry, NotUnsat, Shared, check_sat, check_unsat, entries_decide_their_keys};
@@ -32,9 +32,9 @@ pub fn find_evidence(
     requires boxed { IsBoxed key.now }
     requires some { 1 ≤ budget }
     requires few { budget ≤ 100000 }
-    requires blank { IsBlank region.old }
+    requires blank { IsBlank budget region.old }
     ensures evidence { IfOk result (IsEvidence budget key.now) }
-    ensures blank { IsBlank region.new }
+    ensures blank { IsBlank budget region.new }
 {
     let mark = region.mark();
     let evidence = search(alloc, key, budget, region);
@@ -52,10 +52,11 @@ fn search(
     requires boxed { IsBoxed key.now }
     requires some { 1 ≤ budget }
     requires few { budget ≤ 100000 }
-    requires blank { IsBlank region.old }
+    requires blank { IsBlank budget region.old }
     ensures evidence { IfOk result (IsEvidence budget key.now) }
+    ensures tree { HoldsTree budget region.new }
 {
-    Ok(match solve(alloc, key, budget, region)? {
+    Ok(match solve(key, budget, region) {
         Found::Model(values) => Evidence::Decided(satisfied(alloc, key, &values)?),
         Found::Refuted => Evidence::Decided(refuted(alloc, key, tree_in(alloc, region)?)?),
         Found::Spent => Evidence::Open(tree_in(alloc, region)?),
@@ -64,7 +65,7 @@ fn search(
 
 /// A copy of the tree in the region.
 fn tree_in(alloc: Global, region: &TreeRegion) -> Result<Tree, NoMemory>
-    ensures { IfOk result (λ tree. tree ≡ region.now) }
+    ensures { IfOk result (λ tree. tree ≡ record { nodes = region.now.nodes; terms = region.now.terms }) }
 {
     Ok(Tree::new(region.nodes().to_vec(alloc)?, region.terms().to_vec(alloc)?))
 }

@@ -8,5 +8,6 @@ returns c = λ key budget is boxed.
       boxed = boxed;
       room = c.open_trees_are_below_room.ensures;
       halves = c.cuts_leave_proper_halves.ensures;
-      by_key = c.closed_by_atoms_of_the_key.ensures;
+      one = c.glances_try_units.ensures.one;
+      two = c.glances_try_units.ensures.two;
     }) c.key_bounds_are_short.ensures

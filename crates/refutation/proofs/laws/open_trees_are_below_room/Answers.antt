@@ -2,8 +2,4 @@ use Rattle.refutation.proofs.RoomLemmas.{open-below_room}
 use Rattle.refutation.proofs.laws.open_trees_are_below_room.Goals as goal
 
 pub returns : goal.returns
-returns c =
-    record {
-      below = λ key splits nodes terms is boxed open_tree. open-below_room _ key splits nodes terms is boxed
-          open_tree;
-    }
+returns c = open-below_room

@@ -1,10 +1,11 @@
 use Rattle.std.proofs.Common.{◌≡◌, sym, subst}
 use Rattle.box_solver.specs.Answer.{IsAnswer, IsModelTree, IsRefutingTree, IsSpentTree}
+use Rattle.box_solver.specs.Region.{PlainTreeRegion}
 use Rattle.box_solver.specs.declared.found.Found.{Found}
 use Rattle.refutation.specs.Tree.{PlainTree}
 use Rattle.refutation.specs.SearchTree.{IsOpenTree}
 use Rattle.shared_store.specs.Solving.{IsEvidence, IsModelWithin}
-use Rattle.shared_store.proofs.SolvingLemmas.{answer_of_blank}
+use Rattle.shared_store.proofs.SolvingLemmas.{answer_of_blank, tree_of_blank}
 use Rattle.shared_store.proofs.solving.search.Goals.{in-Model+in_ok-satisfied-in-Model}
 use Rattle.shared_store.proofs.solving.search.Goals.{in-Refuted+in_ok-tree_in-in-Refuted+in_ok-refuted-in-Refuted}
 use Rattle.shared_store.proofs.solving.search.Goals.{in-Spent+in_ok-tree_in-in-Spent}
@@ -12,11 +13,11 @@ use Rattle.shared_store.proofs.solving.search.Goals as goal
 
 pub returns : goal.returns
 returns c =
-    let answer = answer_of_blank c.args.key.now c.args.budget c.args.region.now c.solve.new.region c.in_ok-values.field-0
-    c.requires.blank (c.in_ok-values.ensures {u = tt}).found in
-    let now : PlainTree = c.solve.new.region in
+    let answer = answer_of_blank c.args.key.now c.args.budget c.args.region.now c.solve.new.region c.solve.result
+    c.requires.blank c.solve.ensures in
+    let now : PlainTreeRegion = c.solve.new.region in
     record {
-      evidence = elim c.match-branch-2.branch [
+      evidence = elim c.match-solve.branch [
         | in-Model+in_ok-satisfied-in-Model w ↦
             let model : IsModelTree c.args.key.now c.args.budget w.in-Model.values.items now.nodes now.terms =
             subst (λ (f : Found). IsAnswer c.args.key.now c.args.budget f now.nodes now.terms) w.in-Model.is answer in
@@ -40,4 +41,6 @@ returns c =
             (subst (λ (t : PlainTree). IsOpenTree c.args.key.now c.args.budget t.nodes t.terms)
             (sym (w.in_ok-tree_in-in-Spent.ensures {u = tt})) spent.open_tree)
       ];
+      tree = tree_of_blank c.args.key.now c.args.budget c.args.region.now c.solve.new.region c.solve.result
+          c.requires.blank c.solve.ensures;
     }

@@ -1,0 +1,3 @@
+mod CornerLemmas
+mod PairLemmas
+mod Worked
