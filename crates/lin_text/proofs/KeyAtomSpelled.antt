@@ -1,9 +1,8 @@
--- What is written for a canonical atom spells it.
+-- The tokens of what is written for a canonical atom are those of a tree that means it.
 use Rattle.std.proofs.Common.{◌≡◌, ℕ, ◌<◌, ◌≤◌, ◌^◌, Bool, true, false, List, [], ◌∷◌, ◌++◌, length, map, All}
 use Rattle.std.proofs.Common.{IsTrue, refl, sym, ap, subst, ◌∙◌, arith, append_assoc, decimal, Some, cond, get_or, ◌*ℤ◌}
 use Rattle.std.specs.Prelude.{◌&&◌, ◌==◌, bytes_eq, codes, unsigned_abs}
 use Rattle.std.specs.Bool.{Decides}
-use Rattle.std.proofs.Math.Seq.{drop-append_seam}
 use Rattle.std.proofs.lemmas.Bool.{false≢true}
 use Rattle.std.proofs.lemmas.Slice.Eq.{bytes_eq-Decides}
 use Rattle.std.proofs.lemmas.Fmt.{length-decimal-le}
@@ -11,14 +10,16 @@ use Rattle.std.proofs.lemmas.List.Elements.{All-cons, All-weaker, All-head, All-
 use Rattle.lin_model.specs.Names.{is_name_byte, is_digit, is_reserved}
 use Rattle.lin_model.specs.KeyAtom.{PlainKeyAtom, IsCanonical}
 use Rattle.lin_model.specs.declared.form.FormTerm.{FormTerm}
-use Rattle.lin_text.specs.Pieces.{compare, line_end, is_claim_word}
+use Rattle.lin_model.specs.declared.op.Op.{Op}
+use Rattle.lin_model.specs.declared.op.Op.TheVariants.{Le, Ge, Eq, Ne}
+use Rattle.lin_text.specs.Pieces.{Piece, compare, line_end, is_claim_word}
 use Rattle.lin_text.specs.Spelling.{is_negative, side_text, cmp_text, integer}
 use Rattle.lin_text.specs.Grammar.{multiple, single, Side, side_pieces, integer_pieces, signed}
 use Rattle.lin_text.specs.KeyAtoms.{key_name, side_term, cmp_of_op, key_atom_text}
-use Rattle.lin_text.specs.KeyAtomLaws.{IsKeyName, IsOnKeyVar, IsFormTerm, AreFormTerms, SpellsAtom}
-use Rattle.lin_text.specs.KeyAtomLaws.{WrittenAtomIsSpelled}
+use Rattle.lin_text.specs.KeyAtomTexts.{op_of, IsKeyName, AtomTree, IsOnKeyVar, IsFormTerm, AreFormTerms, Means}
+use Rattle.lin_text.specs.KeyAtomTexts.{WritesAtom}
 use Rattle.lin_text.proofs.ReadBackTokens.{Reads-feed, Reads-blank, Starts}
-use Rattle.lin_text.proofs.ReadBackWords.{Stops-blank, Starts-compare, plain_sign, plain_sign-means, IsOwnName}
+use Rattle.lin_text.proofs.ReadBackWords.{Stops-blank, Starts-compare, plain_sign, IsOwnName}
 use Rattle.lin_text.proofs.ReadBackWords.{AreDigits-decimal}
 use Rattle.lin_text.proofs.ReadBackSides.{first_item, later_item, shown_side, shown_size-is, Starts-side}
 use Rattle.lin_text.proofs.ReadBackSides.{CanSpell, first_factor, later_factor}
@@ -138,6 +139,12 @@ AreFormTerms-later (t ∷ form) vars = (
   AreFormTerms-later form (All-tail (λ u. u.var < 64) t form vars),
 )
 
+plain_op : (op : Op) → op_of (plain_sign (cmp_of_op op)) ≡ Some op
+plain_op Le = refl
+plain_op Ge = refl
+plain_op Eq = refl
+plain_op Ne = refl
+
 regroup : (l s c i e : List ℕ) → l ++ (s ++ (c ++ (s ++ (i ++ e)))) ≡ ((((l ++ s) ++ c) ++ s) ++ i) ++ e
 regroup l s c i e = simp append_assoc
 
@@ -154,9 +161,35 @@ module _ (p : Bool) (t : FormTerm) (form : List FormTerm) (a : PlainKeyAtom) (is
   abbrev pub side : Side
   side = shown_side key_name (side_term t) (map side_term form)
 
-  pub starts : Starts p (key_atom_text a ++ 10 ∷ left) left
-      (side_pieces side ++ compare (plain_sign (cmp_of_op a.op))
-      ∷ (integer_pieces (shown_integer a.constant) ++ line_end ∷ []))
+  abbrev pub tree : AtomTree
+  tree = record { side = side; sign = plain_sign (cmp_of_op a.op); integer = shown_integer a.constant }
+
+  means : Means tree a
+  means = record {
+    form = subst (λ (f : List FormTerm). AreFormTerms (record {
+      subtracted = false;
+      item = side.first;
+    } ∷ side.later) f) (sym is) (
+      IsFormTerm-first t (All-head (λ u. u.var < 64) t form vars),
+      AreFormTerms-later form (All-tail (λ u. u.var < 64) t form vars),
+    );
+    op = plain_op a.op;
+    value = shown_integer-is a.constant;
+    canonical = canonical;
+  }
+
+  abbrev pub shown : List Piece
+  shown = side_pieces side ++ compare tree.sign ∷ (integer_pieces tree.integer ++ line_end ∷ [])
+
+  pub writes : (ps : List Piece) → ps ≡ shown → WritesAtom ps a (line_end ∷ [])
+  writes ps e = record {
+    tree = tree;
+    written = e ∙ sym (append_assoc (side_pieces side) (compare tree.sign ∷ integer_pieces tree.integer)
+        (line_end ∷ []));
+    means = means;
+  }
+
+  pub starts : Starts p (key_atom_text a ++ 10 ∷ left) left shown
   unfolding key_atom_text
   starts =
       let number = Reads-integer p a.constant (10 ∷ left) left (line_end ∷ [])
@@ -177,35 +210,19 @@ module _ (p : Bool) (t : FormTerm) (form : List FormTerm) (a : PlainKeyAtom) (is
       (10 ∷ left))
       whole
 
-  pub spelled : (front : List ℕ) → SpellsAtom p (front ++ (key_atom_text a ++ 10 ∷ left)) (length front) a
-      (line_end ∷ [])
-  spelled front =
-      let has = starts.reads.read (front ++ (key_atom_text a ++ 10 ∷ left)) (length front)
-      (drop-append_seam front (key_atom_text a ++ 10 ∷ left)) in
-      record {
-        tokens = has.tokens;
-        are = has.are;
-        side = side;
-        sign = plain_sign (cmp_of_op a.op);
-        integer = shown_integer a.constant;
-        written = has.shown ∙ sym (append_assoc (side_pieces side)
-            (compare (plain_sign (cmp_of_op a.op)) ∷ integer_pieces (shown_integer a.constant)) (line_end ∷ []));
-        form = subst (λ (f : List FormTerm). AreFormTerms (record {
-          subtracted = false;
-          item = side.first;
-        } ∷ side.later) f) (sym is) (
-          IsFormTerm-first t (All-head (λ u. u.var < 64) t form vars),
-          AreFormTerms-later form (All-tail (λ u. u.var < 64) t form vars),
-        );
-        op = plain_sign-means (cmp_of_op a.op);
-        value = shown_integer-is a.constant;
-        canonical = canonical;
-      }
+-- the text of a canonical atom begins a line, which has the tokens of the atom and ends with a line feed
+pub record StartsAtom (p : Bool) (a : PlainKeyAtom) (left : List ℕ) : Type 0 where
+  pub shown : List Piece
+  pub starts : Starts p (key_atom_text a ++ 10 ∷ left) left shown
+  pub writes : (ps : List Piece) → ps ≡ shown → WritesAtom ps a (line_end ∷ [])
 
-pub written_atom : WrittenAtomIsSpelled
-written_atom p front rest a canonical = by_form a.form refl
+pub atom_starts : (p : Bool) (a : PlainKeyAtom) (left : List ℕ) → IsCanonical a → StartsAtom p a left
+atom_starts p a left canonical = by_form a.form refl
   where
-    by_form : (f : List FormTerm) → a.form ≡ f
-        → SpellsAtom p (front ++ (key_atom_text a ++ 10 ∷ rest)) (length front) a (line_end ∷ [])
+    by_form : (f : List FormTerm) → a.form ≡ f → StartsAtom p a left
     by_form [] is = absurd (omega (arith, ap length is, canonical.form.has_terms))
-    by_form (t ∷ form) is = spelled p t form a is canonical rest front
+    by_form (t ∷ form) is = record {
+      shown = shown p t form a is canonical left;
+      starts = starts p t form a is canonical left;
+      writes = writes p t form a is canonical left;
+    }

@@ -225,7 +225,7 @@ first_token-ahead p bytes at =
     ahead_of p bytes at (token_here from (drop from bytes)) (token_here-within from (drop from bytes))
 
 -- the end of a line is no further than the end of the input
-line_end-within : (bytes : List ℕ) (at : ℕ) → at ≤ length bytes → line_end bytes at ≤ length bytes
+pub line_end-within : (bytes : List ℕ) (at : ℕ) → at ≤ length bytes → line_end bytes at ≤ length bytes
 line_end-within bytes at le = omega (arith, prefix_len-le-length is_in_line (drop at bytes), length-drop at bytes)
 
 -- every place has tokens

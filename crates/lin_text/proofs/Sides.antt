@@ -36,7 +36,7 @@ full_side l front f = record {
   written = f.5;
 }
 
-begins_item-class : (q : Piece) → begins_item_class (class_of q) ≡ begins_item q
+pub begins_item-class : (q : Piece) → begins_item_class (class_of q) ≡ begins_item q
 begins_item-class minus = refl
 begins_item-class (number n) = refl
 begins_item-class (name x) = refl

@@ -83,7 +83,7 @@ pub record EndsInFullSide (front : List Piece) : Type 0 where
 -- a bound above 2^31, a constant above 2^40, or a number above 2^31 that a `*` follows
 abbrev pub IsTooLarge : List Piece → ℕ → List Piece → Type 0
 IsTooLarge front n after =
-    MatchBool (begins_variable front) (MAX_FACTOR < n) (MAX_CONSTANT < n)
+    MatchBool (begins_variable front) (MAX_BOUND < n) (MAX_CONSTANT < n)
     ⊎ ((MAX_FACTOR < n) × IsTrue (begins_times after))
 
 -- two integers, neither too large, the lower one above the upper one

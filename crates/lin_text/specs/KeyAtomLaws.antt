@@ -1,58 +1,59 @@
--- What a text has to be to spell a canonical atom, and that what is written for one spells it.
-use Rattle.std.specs.Prelude.{◌≡◌, ℕ, Bool, false, List, [], ◌∷◌, ◌++◌, length, codes}
+-- Laws of the texts of canonical atoms.
+use Rattle.std.specs.Prelude.{◌≡◌, ℕ, ◌≤◌, Bool, false, ◌⊎◌, List, [], ◌∷◌, ◌++◌, length}
 use Rattle.lin_model.specs.KeyAtom.{PlainKeyAtom, IsCanonical}
-use Rattle.lin_model.specs.declared.form.FormTerm.{FormTerm}
-use Rattle.lin_text.specs.declared.class.Sign.{Sign}
-use Rattle.lin_text.specs.Tokens.{IsNumberForm}
-use Rattle.lin_text.specs.Pieces.{Piece, compare, line_end, number_of, cmp_of, PlainToken, pieces, AreTokens}
-use Rattle.lin_text.specs.Grammar.{Integer, Quantity, constant, multiple, single, Item, Joined, Side, integer_pieces}
-use Rattle.lin_text.specs.Grammar.{integer_value, side_pieces, factor_of}
-use Rattle.lin_text.specs.KeyAtoms.{cmp_of_op, key_atom_text}
+use Rattle.lin_text.specs.declared.fault.TextKind.{TextKind}
+use Rattle.lin_text.specs.Pieces.{Piece, line_end}
+use Rattle.lin_text.specs.FirstFaults.{HasFaultFrom}
+use Rattle.lin_text.specs.FoundLaws.{IsOver}
+use Rattle.lin_text.specs.KeyAtoms.{key_atom_text}
+use Rattle.lin_text.specs.KeyAtomTexts.{SpellsAtom, HasAtomFault, atom_rules, IsAtomText}
 
--- the name is a `v` and digits that are this number
-pub record IsKeyName (x : List ℕ) (var : ℕ) : Type 0 where
-  pub digits : List ℕ
-  pub is : x ≡ codes "v" ++ digits
-  pub form : IsNumberForm digits
-  pub value : var ≡ number_of digits
-
--- the quantity is on the variable of this number
-abbrev pub IsOnKeyVar : Quantity → ℕ → Type 0
-IsOnKeyVar (constant n) var = ⊥
-IsOnKeyVar (multiple n x) var = IsKeyName x var
-IsOnKeyVar (single x) var = IsKeyName x var
-
--- the item is this term
-pub record IsFormTerm (subtracted : Bool) (i : Item) (t : FormTerm) : Type 0 where
-  pub coef : t.coef ≡ factor_of subtracted i
-  pub on : IsOnKeyVar i.quantity t.var
-
--- the items are these terms, one for each in order
-abbrev pub AreFormTerms : List Joined → List FormTerm → Type 0
-AreFormTerms [] form = form ≡ []
-AreFormTerms (j ∷ js) [] = ⊥
-AreFormTerms (j ∷ js) (t ∷ form) = IsFormTerm j.subtracted j.item t × AreFormTerms js form
-
--- The tokens of a line from a place on begin with those of the atom: its form as a side, its op, which is not spelled
--- `==`, and its constant. Behind them come the tokens `after`.
-pub record SpellsAtom (in_proof : Bool) (bytes : List ℕ) (at : ℕ) (a : PlainKeyAtom) (after : List Piece) : Type 0 where
-  pub tokens : List PlainToken
-  pub are : AreTokens in_proof bytes at tokens
-  pub side : Side
-  pub sign : Sign
-  pub integer : Integer
-  pub written : pieces tokens ≡ side_pieces side ++ compare sign ∷ integer_pieces integer ++ after
-  pub form : AreFormTerms (record { subtracted = false; item = side.first } ∷ side.later) a.form
-  pub op : cmp_of_op a.op ≡ cmp_of sign
-  pub value : a.constant ≡ integer_value integer
-  pub canonical : IsCanonical a
-
--- what is written for a canonical atom spells it, wherever a line feed ends the line behind it
+-- what is written for a canonical atom spells it, wherever the line ends behind it
 abbrev pub WrittenAtomIsSpelled : Type 0
-WrittenAtomIsSpelled = (in_proof : Bool) (front rest : List ℕ) (a : PlainKeyAtom) → IsCanonical a
-    → SpellsAtom in_proof (front ++ (key_atom_text a ++ 10 ∷ rest)) (length front) a (line_end ∷ [])
+WrittenAtomIsSpelled = (in_proof : Bool) (front rest : List ℕ) (a : PlainKeyAtom) → IsCanonical a → IsOver rest
+    → SpellsAtom in_proof (front ++ (key_atom_text a ++ rest)) (length front) a (line_end ∷ [])
 
 -- a text spells one canonical atom at most from a place on
 abbrev pub AtomSpelledOnce : Type 0
 AtomSpelledOnce = (in_proof : Bool) (bytes : List ℕ) (at : ℕ) (a b : PlainKeyAtom) (after behind : List Piece)
     → SpellsAtom in_proof bytes at a after → SpellsAtom in_proof bytes at b behind → (a ≡ b) × (after ≡ behind)
+
+-- a line that spells a canonical atom has no fault
+abbrev pub SpelledAtomHasNoFault : Type 0
+SpelledAtomHasNoFault = (in_proof : Bool) (bytes : List ℕ) (at : ℕ) (a : PlainKeyAtom) (kind : TextKind) (place : ℕ)
+    → SpellsAtom in_proof bytes at a (line_end ∷ []) → HasAtomFault in_proof bytes at kind place → ⊥
+
+-- what is written for a canonical atom is a text of it
+abbrev pub WrittenAtomIsText : Type 0
+WrittenAtomIsText = (a : PlainKeyAtom) → IsCanonical a → IsAtomText (key_atom_text a) a
+
+-- a text is one of one canonical atom at most
+abbrev pub AtomTextOnce : Type 0
+AtomTextOnce = (bytes : List ℕ) (a b : PlainKeyAtom) → IsAtomText bytes a → IsAtomText bytes b → a ≡ b
+
+-- a text of a canonical atom has no fault
+abbrev pub AtomTextHasNoFault : Type 0
+AtomTextHasNoFault = (bytes : List ℕ) (a : PlainKeyAtom) (kind : TextKind) (place : ℕ) → IsAtomText bytes a
+    → HasFaultFrom atom_rules false bytes false 0 kind place → ⊥
+
+-- each place of a text spells a canonical atom, up to the end of its line, or its line has a first fault from there on
+abbrev pub AtomSpelledOrFaulty : Type 0
+AtomSpelledOrFaulty = (in_proof : Bool) (bytes : List ℕ) (at : ℕ) → at ≤ length bytes
+    → ((a : PlainKeyAtom) × SpellsAtom in_proof bytes at a (line_end ∷ []))
+    ⊎ ((kind : TextKind) × (place : ℕ) × HasAtomFault in_proof bytes at kind place)
+
+-- a text is one of a canonical atom, or has a first fault
+abbrev pub AtomTextOrFaulty : Type 0
+AtomTextOrFaulty = (bytes : List ℕ) → ((a : PlainKeyAtom) × IsAtomText bytes a)
+    ⊎ ((kind : TextKind) × (place : ℕ) × HasFaultFrom atom_rules false bytes false 0 kind place)
+
+-- an atom's line has at most one first fault, at one place
+abbrev pub OneFirstAtomFault : Type 0
+OneFirstAtomFault = (in_proof : Bool) (bytes : List ℕ) (at : ℕ) (k j : TextKind) (a b : ℕ)
+    → HasAtomFault in_proof bytes at k a → HasAtomFault in_proof bytes at j b → (k ≡ j) × (a ≡ b)
+
+-- so has a text of one atom
+abbrev pub OneFirstAtomTextFault : Type 0
+OneFirstAtomTextFault = (bytes : List ℕ) (k j : TextKind) (a b : ℕ)
+    → HasFaultFrom atom_rules false bytes false 0 k a → HasFaultFrom atom_rules false bytes false 0 j b
+    → (k ≡ j) × (a ≡ b)

@@ -12,6 +12,8 @@ pub mod Faults
 pub mod Queries
 pub mod Reading
 pub mod Answers
+pub mod KeyAtomTexts
+pub mod AtomSteps
 pub mod Laws
 pub mod LineLaws
 pub mod KeyAtomLaws

@@ -67,7 +67,7 @@ pub struct Lexeme {
 pub const TOO_LARGE: u64 = CONSTANT_LIMIT;
 
 /// The number that the digits are, or the least that is too large for any text.
-fn number_of(digits: &[u8]) -> u64
+pub fn number_of(digits: &[u8]) -> u64
     ensures { result ≡ min (number_of digits.now) TOO_LARGE }
 {
     let mut number = 0;

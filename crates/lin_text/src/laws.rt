@@ -2,7 +2,9 @@
 ghost use Rattle.lin_text.specs.Laws.{OneFirstFault, SpelledHasNoFault, SpelledLinesHaveNoFault, SpelledOnce};
 ghost use Rattle.lin_text.specs.Laws.{SpelledOrFaulty, TokensAreLongest, WordsStandInNoLine, WrittenIsSpelled};
 ghost use Rattle.lin_text.specs.Laws.{WrittenIsSpelledWithin};
-ghost use Rattle.lin_text.specs.KeyAtomLaws.{AtomSpelledOnce, WrittenAtomIsSpelled};
+ghost use Rattle.lin_text.specs.KeyAtomLaws.{AtomSpelledOnce, AtomSpelledOrFaulty, AtomTextHasNoFault, AtomTextOnce};
+ghost use Rattle.lin_text.specs.KeyAtomLaws.{AtomTextOrFaulty, OneFirstAtomFault, OneFirstAtomTextFault};
+ghost use Rattle.lin_text.specs.KeyAtomLaws.{SpelledAtomHasNoFault, WrittenAtomIsSpelled, WrittenAtomIsText};
 ghost use Rattle.lin_text.specs.LineLaws.{LinesAreInOrder, TokensMoveWithTheirText};
 ghost use Rattle.lin_text.specs.FoundLaws.{LinesAreNext, TokensAreNext};
 
@@ -73,7 +75,7 @@ pub fn spelled_or_faulty()
     ensures { SpelledOrFaulty }
 {}
 
-/// What is written for a canonical atom spells it, wherever a line feed ends the line behind it.
+/// What is written for a canonical atom spells it, wherever the line ends behind it.
 pub fn written_atom_is_spelled()
     ensures { WrittenAtomIsSpelled }
 {}
@@ -81,4 +83,44 @@ pub fn written_atom_is_spelled()
 /// A text spells one canonical atom at most from a place on.
 pub fn atom_spelled_once()
     ensures { AtomSpelledOnce }
+{}
+
+/// A line that spells a canonical atom has no fault.
+pub fn spelled_atom_has_no_fault()
+    ensures { SpelledAtomHasNoFault }
+{}
+
+/// What is written for a canonical atom is a text of it, so it is read back.
+pub fn written_atom_is_text()
+    ensures { WrittenAtomIsText }
+{}
+
+/// A text is one of one canonical atom at most.
+pub fn atom_text_once()
+    ensures { AtomTextOnce }
+{}
+
+/// A text of a canonical atom has no fault.
+pub fn atom_text_has_no_fault()
+    ensures { AtomTextHasNoFault }
+{}
+
+/// Each place of a text spells a canonical atom, up to the end of its line, or its line has a first fault from there on.
+pub fn atom_spelled_or_faulty()
+    ensures { AtomSpelledOrFaulty }
+{}
+
+/// A text is one of a canonical atom, or has a first fault.
+pub fn atom_text_or_faulty()
+    ensures { AtomTextOrFaulty }
+{}
+
+/// An atom's line has at most one first fault, at one place.
+pub fn one_first_atom_fault()
+    ensures { OneFirstAtomFault }
+{}
+
+/// A text of one atom has at most one first fault, at one place.
+pub fn one_first_atom_text_fault()
+    ensures { OneFirstAtomTextFault }
 {}

@@ -123,7 +123,7 @@ fn read_item<N: Numbering>(
 }
 
 /// Whether an item may begin with the token.
-fn begins_item(class: Class) -> bool
+pub fn begins_item(class: Class) -> bool
     ensures { result ≡ begins_item_class class }
 {
     matches!(class, Class::Minus | Class::Number(_) | Class::Name)
