@@ -4,9 +4,10 @@
 #
 # A small program, whose sources stand in bench/lookups, is proved and built on a copy of the crates. It holds keys in
 # layers, of the sizes that a version has to which as many entries were added one by one, and looks keys up again and
-# again. What is printed is the difference of two runs, one of which looks up once and the other more often: microseconds
-# a lookup, a new `Asked` included. Where keys are multiplied, each copy has other constants: all changed by one number
-# ("shifted"), or each by a number of its own ("apart").
+# again, as a version does: the very key first, and then what decides it. What is printed is the difference of two runs,
+# one of which looks up once and the other more often: microseconds a lookup, a new `Asked` included where the very key
+# isn't held. Where keys are multiplied, each copy has other constants: all changed by one number ("shifted"), or each by
+# a number of its own ("apart").
 set -euo pipefail
 folder=$(cd "${1:?the folder of the sessions}" && pwd)
 root=$(cd "$(dirname "$(readlink -f "${BASH_SOURCE[0]}")")/.." && pwd)
@@ -59,21 +60,28 @@ print(seconds, resource.getrusage(resource.RUSAGE_CHILDREN).ru_maxrss, printed.s
 END
 }
 
-# lookups NAME KEYS COPIES APART HELD COUNT ROUNDS: hits among the keys in the middle of those held, and misses among
-# those behind them
+# lookups NAME KEYS COPIES APART HELD COUNT ROUNDS: keys in the middle of those held, which find themselves, in a hundred
+# times as many rounds; and of those behind them the ones that find another key, and the ones that find none
 lookups() {
-    local held
+    local held what from misses rounds
     held=$(sizes "$5")
-    for misses in 0 1; do
-        from=$((misses > 0 ? $5 : ($5 - $6) / 2))
+    for what in "finds the very key" "finds another key" misses; do
+        from=$5 misses=0 rounds=$7
+        case $what in
+            "finds the very key") from=$((($5 - $6) / 2)) rounds=$(($7 * 100)) ;;
+            misses) misses=1 ;;
+        esac
         # shellcheck disable=SC2086
-        { run "$2" "$3" "$4" "$from" "$6" "$misses" 1 $held; run "$2" "$3" "$4" "$from" "$6" "$misses" $(($7 + 1)) $held; } |
-            awk -v name="$1" -v held="$5" -v misses="$misses" -v rounds="$7" '
+        {
+            run "$2" "$3" "$4" "$from" "$6" "$misses" 1 $held
+            run "$2" "$3" "$4" "$from" "$6" "$misses" $((rounds + 1)) $held
+        } |
+            awk -v name="$1" -v held="$5" -v what="$what" -v rounds="$rounds" '
                 { seconds[NR] = $1; asked = $3 }
                 END {
                     if (asked > 0)
                         printf "%s, %d held: %.1f microseconds a lookup that %s (%d asked)\n", name, held,
-                            (seconds[2] - seconds[1]) / rounds / asked * 1e6, misses ? "misses" : "hits", asked
+                            (seconds[2] - seconds[1]) / rounds / asked * 1e6, what, asked
                 }'
     done
 }

@@ -1,3 +1,4 @@
 mod CornerLemmas
 mod PairLemmas
+mod WorthLemmas
 mod Worked

@@ -1,3 +1,4 @@
 pub mod Found
 pub mod Corner
+pub mod AtCorners
 pub mod Tried

@@ -1,75 +1,134 @@
-//! What a term is worth at the lowest corner of a box, or at its highest: each variable at its lower side, or each at its
-//! upper side; where that side is missing at the other one, and at 0 where both are.
+//! What atoms and sides are worth at the lowest corner of a box and at its highest: each variable at its lower side, or
+//! each at its upper side; where that side is missing at the other one, and at 0 where both are.
 
-ghost use Rattle.std.specs.Prelude.{◌≡◌, ◌+◌, ◌^◌, ◌<◌, ◌≤◌, ◌-ℤ◌, ◌*ℤ◌, IfSome, unsigned_abs, pos};
-ghost use Rattle.std.specs.Option.{unwrap_or};
+ghost use Rattle.std.specs.Prelude.{◌≡◌, ◌+◌, ◌^◌, ◌<◌, ◌≤◌, ◌-ℤ◌, ◌*ℤ◌, length, unsigned_abs, pos, Some, ℤ, false, true};
+ghost use Rattle.std.specs.Option.{unwrap_or, option_map};
 ghost use Rattle.lin_model.specs.Form.{form_value};
 ghost use Rattle.lin_model.specs.KeyAtom.{IsCanonicalForm};
 ghost use Rattle.refutation.specs.Bounds.{IsSide};
-ghost use Rattle.combos.specs.Corner.{corner, corner_side, corner_value};
+ghost use Rattle.refutation.specs.Glance.{place_count, term_at};
+ghost use Rattle.refutation.specs.Leaf.{weighted};
+ghost use Rattle.combos.specs.Corner.{corner, corner_side, worth_of};
 ghost use Rattle.combos.specs.Found.{box_of};
+ghost use Rattle.combos.specs.AtCorners.{plus, negated, is_positive, IsWorth, IsSmall};
 
-use lin_model::{FormTerm, Key};
-use refutation::{Bounds, LeafTerm, Side, comparison_of, weight};
+use crate::term::term_at;
+use lin_model::{FormTerm, Key, Op};
+use refutation::{Bounds, Comparison, Side, comparison_of};
 
-/// What the term is worth at the corner, None where it names nothing or its factor isn't lawful.
-pub fn corner_value(
-    key: &Key,
-    bounds: &Bounds,
-    sides: &[Side],
-    highest: bool,
-    term: LeafTerm,
-) -> Option<i128>
-    ensures value { result ≡ corner_value key.now (box_of bounds.now sides.now) highest term }
-    ensures size { IfSome result (λ n. unsigned_abs n ≤ 2 ^ 121) }
-{
-    match comparison_of(key, sides, term.on) {
-        None => None,
-        Some(comparison) => match weight(comparison.op, term.factor) {
-            None => None,
-            Some(weight) => {
-                let value = form_at_corner(comparison.form.terms(), bounds, highest);
-                Some(weighted_excess(weight, value, comparison.constant))
-            }
-        },
+/// What something is worth at both corners.
+#[derive(Clone, Copy)]
+pub struct Worth {
+    /// At the lowest corner.
+    pub lowest: i128,
+    /// At the highest.
+    pub highest: i128,
+}
+
+impl Worth {
+    /// So little that no sum with anything else in a box is positive.
+    pub const NOTHING: Worth = Worth {
+        lowest: -(1 << 100),
+        highest: -(1 << 100),
+    };
+
+    /// The sum of both.
+    pub fn plus(self, other: Worth) -> Worth
+        requires one { IsSmall self }
+        requires other { IsSmall other }
+        ensures { result ≡ plus self other }
+    {
+        Worth {
+            lowest: self.lowest + other.lowest,
+            highest: self.highest + other.highest,
+        }
+    }
+
+    /// The negative.
+    pub fn negated(self) -> Worth
+        requires { IsSmall self }
+        ensures value { result ≡ negated self }
+        ensures small { IsSmall result }
+    {
+        Worth {
+            lowest: -self.lowest,
+            highest: -self.highest,
+        }
+    }
+
+    /// Whether it is more than 0 at both corners.
+    pub fn is_positive(self) -> bool
+        ensures { result ≡ is_positive self }
+    {
+        self.lowest > 0 && self.highest > 0
     }
 }
 
-/// The multiple of a form less its constant.
-fn weighted_excess(weight: i64, value: i128, constant: i64) -> i128
-    requires weight { unsigned_abs weight ≤ 2 ^ 31 }
+/// What the atom or side at this place of the row is worth by the factor 1; where that isn't lawful, so little that no
+/// sum with it is positive.
+pub fn worth_at(key: &Key, bounds: &Bounds, sides: &[Side], place: usize) -> Worth
+    requires few { length sides.now ≤ 65536 }
+    requires place { place < place_count key.now sides.now }
+    ensures worth { IsWorth key.now (box_of bounds.now sides.now) (term_at key.now place (pos 1)) result }
+    ensures small { IsSmall result }
+{
+    match comparison_of(key, sides, term_at(key, sides, place, 1).on) {
+        None => Worth::NOTHING,
+        Some(comparison) => worth_of(comparison, bounds),
+    }
+}
+
+/// What a comparison is worth by the factor 1.
+fn worth_of(comparison: Comparison<'_>, bounds: &Bounds) -> Worth
+    requires form { IsCanonicalForm comparison.form.now }
+    requires constant { unsigned_abs comparison.constant ≤ 2 ^ 50 }
+    ensures lowest { (x : ℤ) → option_map (worth_of (corner bounds.now false)) (weighted (record {
+      form = comparison.entry.form.now;
+      op = comparison.entry.op;
+      constant = comparison.entry.constant;
+    }) (pos 1)) ≡ Some x → x ≡ result.lowest }
+    ensures highest { (x : ℤ) → option_map (worth_of (corner bounds.now true)) (weighted (record {
+      form = comparison.entry.form.now;
+      op = comparison.entry.op;
+      constant = comparison.entry.constant;
+    }) (pos 1)) ≡ Some x → x ≡ result.highest }
+    ensures small { IsSmall result }
+{
+    match comparison.op {
+        Op::Le | Op::Eq => excess(comparison.form.terms(), comparison.constant, bounds),
+        Op::Ge => excess(comparison.form.terms(), comparison.constant, bounds).negated(),
+        Op::Ne => Worth::NOTHING,
+    }
+}
+
+/// How far the form is above the constant at both corners.
+fn excess(form: &[FormTerm], constant: i64, bounds: &Bounds) -> Worth
+    requires form { IsCanonicalForm form.now }
+    requires constant { unsigned_abs constant ≤ 2 ^ 50 }
+    ensures lowest { result.lowest ≡ form_value form.now (corner bounds.now false) -ℤ constant }
+    ensures highest { result.highest ≡ form_value form.now (corner bounds.now true) -ℤ constant }
+    ensures small { IsSmall result }
+{
+    let mut lowest = 0;
+    let mut highest = 0;
+    for term in form {
+        lowest += term_at_corner(*term, bounds, false);
+        highest += term_at_corner(*term, bounds, true);
+    }
+    Worth {
+        lowest: less(lowest, constant),
+        highest: less(highest, constant),
+    }
+}
+
+/// The value of a form less a constant.
+fn less(value: i128, constant: i64) -> i128
     requires value { unsigned_abs value ≤ 2 ^ 80 }
     requires constant { unsigned_abs constant ≤ 2 ^ 50 }
-    ensures value { result ≡ (weight *ℤ value) -ℤ (weight *ℤ constant) }
-    ensures size { unsigned_abs result ≤ 2 ^ 121 }
+    ensures value { result ≡ value -ℤ constant }
+    ensures size { unsigned_abs result ≤ 2 ^ 100 }
 {
-    difference(
-        weighted(weight, value),
-        weighted(weight, i128::from(constant)),
-    )
-}
-
-/// The difference of two numbers.
-fn difference(a: i128, b: i128) -> i128
-    requires a { unsigned_abs a ≤ 2 ^ 112 }
-    requires b { unsigned_abs b ≤ 2 ^ 112 }
-    ensures value { result ≡ a -ℤ b }
-    ensures size { unsigned_abs result ≤ 2 ^ 121 }
-{
-    a - b
-}
-
-/// The value of the form at the corner.
-fn form_at_corner(form: &[FormTerm], bounds: &Bounds, highest: bool) -> i128
-    requires { IsCanonicalForm form.now }
-    ensures value { result ≡ form_value form.now (corner bounds.now highest) }
-    ensures size { unsigned_abs result ≤ 2 ^ 80 }
-{
-    let mut sum = 0;
-    for term in form {
-        sum += term_at_corner(*term, bounds, highest);
-    }
-    sum
+    value - i128::from(constant)
 }
 
 /// The value of a term at the corner.
@@ -116,14 +175,4 @@ fn scaled(coef: i64, side: i64) -> i128
     ensures size { unsigned_abs result ≤ 2 ^ 74 }
 {
     i128::from(coef) * i128::from(side)
-}
-
-/// A weight times a number.
-fn weighted(weight: i64, number: i128) -> i128
-    requires weight { unsigned_abs weight ≤ 2 ^ 31 }
-    requires number { unsigned_abs number ≤ 2 ^ 81 }
-    ensures value { result ≡ weight *ℤ number }
-    ensures size { unsigned_abs result ≤ 2 ^ 112 }
-{
-    i128::from(weight) * number
 }

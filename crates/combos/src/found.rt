@@ -8,6 +8,7 @@ use crate::elimination::eliminate;
 use crate::fixed::closing_fixed;
 use crate::pair::closing_pair;
 use crate::unit::closing_unit;
+use crate::worths::Worths;
 use lin_model::Key;
 use refutation::{Bounds, Leaf, Side, closes, glances_try_units};
 
@@ -27,10 +28,11 @@ pub fn find_combo(key: &Key, bounds: &Bounds, sides: &[Side]) -> Option<Leaf>
     if bounds.is_empty() {
         return Some(Leaf::Empty);
     }
-    if let Some(leaf) = closing_unit(key, bounds, sides) {
+    let worths = Worths::of(key, bounds, sides);
+    if let Some(leaf) = closing_unit(key, bounds, sides, &worths) {
         return Some(leaf);
     }
-    if let Some(leaf) = closing_pair(key, bounds, sides) {
+    if let Some(leaf) = closing_pair(key, bounds, sides, &worths) {
         return Some(leaf);
     }
     if let Some(leaf) = closing_combination(key, bounds, sides) {

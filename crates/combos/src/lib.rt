@@ -12,5 +12,6 @@ mod row;
 mod tableau;
 mod term;
 mod unit;
+mod worths;
 
 pub use found::find_combo;

@@ -13,7 +13,7 @@ use Rattle.key_tree.specs.Prints.{gives_of}
 use Rattle.key_tree.specs.Tree.{PlainTree, IsTree, way_to, place_at, no_branch, pairs_of}
 use Rattle.key_tree.specs.Growth.{IsFront, IsPositionFor, IsChain, MayWiden, AreSameButMasks, AreMasked, chain_kid, branches_of_chain, places_of_chain}
 use Rattle.key_tree.proofs.GrownLemmas.{grown_branches, grown_places}
-use Rattle.key_tree.proofs.GrowthLemmas.{Grew}
+use Rattle.key_tree.proofs.GrownWays.{Grew}
 use Rattle.key_tree.proofs.WidenStart.{may_widen}
 
 -- the chain of what is left of the key joined the tree

@@ -17,6 +17,8 @@ mod WidenLemmas
 mod PairLemmas
 mod HoldLemmas
 mod GrownLemmas
+mod GrownWays
+mod GrownKids
 mod GrowthLemmas
 mod WidenStart
 mod JoinLemmas

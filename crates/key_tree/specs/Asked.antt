@@ -10,11 +10,13 @@ use Rattle.key_tree.specs.Runs.{AreRuns}
 abbrev pub atom_hash : PlainKeyAtom → ℕ
 atom_hash a = hash_of a.form
 
--- what is asked: each atom has its hash, and stands in the run of that; a mask that has what each needs has all needs
+-- what is asked: each atom has its hash, and stands in the run of that; the needs have what each atom needs, and are
+-- within each mask that has
 pub record IsAsked (key : List PlainKeyAtom) (hashes : List ℕ) (runs : Runs) (needs : ℕ) : Type 0 where
   pub hashed : hashes ≡ map atom_hash key
   pub run : AreRuns hashes runs (length hashes)
   pub few : length hashes ≤ 384
+  pub each : All (λ a. IsWithin (needs_of a) needs) key
   pub needed : (mask : ℕ) → All (λ a. IsWithin (needs_of a) mask) key → IsWithin needs mask
 
 -- what stands for an atom where there is none

@@ -92,9 +92,10 @@ impl<'a> Asked<'a> {
         atom_needs(self.atom(place), self.hash(place))
     }
 
-    /// A mask that is within each that has what every atom needs.
+    /// What all atoms need together: a mask that has what each needs, and is within each mask that has.
     pub fn all_needs(&self) -> u64
-        ensures { (mask : ℕ) → All (λ a. IsWithin (needs_of a) mask) self.now → IsWithin result mask }
+        ensures each { All (λ a. IsWithin (needs_of a) result) self.now }
+        ensures least { (mask : ℕ) → All (λ a. IsWithin (needs_of a) mask) self.now → IsWithin result mask }
     {
         self.needs
     }
@@ -119,7 +120,8 @@ impl<'a> Asked<'a> {
 /// What all of these atoms need, whose forms have these hashes.
 fn needs_together(atoms: &[KeyAtom], hashes: &[u32]) -> u64
     requires { hashes.now ≡ map atom_hash atoms.now }
-    ensures { (mask : ℕ) → All (λ a. IsWithin (needs_of a) mask) atoms.now → IsWithin result mask }
+    ensures each { All (λ a. IsWithin (needs_of a) result) atoms.now }
+    ensures least { (mask : ℕ) → All (λ a. IsWithin (needs_of a) mask) atoms.now → IsWithin result mask }
 {
     let mut needs = 0;
     for (place, atom) in atoms.iter().enumerate() {

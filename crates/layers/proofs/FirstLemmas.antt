@@ -1,9 +1,9 @@
 -- The first entry from a place on, layer by layer.
 use Rattle.std.proofs.Common.{◌≡◌, ℕ, ◌+◌, ◌-◌, ◌<◌, ◌≤◌, ◌∙◌, List, Option, Some, None, length, take, get_or}
-use Rattle.std.proofs.Common.{◌⊎◌, inl, inr, arith, refl, sym, ap, subst}
+use Rattle.std.proofs.Common.{inl, inr, arith, sym, ap, subst}
 use Rattle.std.specs.Prelude.{IsSomeAnd}
 use Rattle.std.specs.List.{slice_get}
-use Rattle.std.proofs.lemmas.Option.{slice_get_within}
+use Rattle.std.proofs.lemmas.Option.{get_or_from_slice_get, slice_get_within}
 use Rattle.std.proofs.lemmas.Bool.{cases_lt}
 use Rattle.std.proofs.lemmas.List.{length-take, get_or-take}
 use Rattle.lin_model.specs.KeyAtom.{PlainKeyAtom}
@@ -102,3 +102,36 @@ pub placed_within : (n : ℕ) (entries : List Entry) (q : List PlainKeyAtom) (pl
 placed_within n entries q place first =
     let found = Found-from (slice_get entries place) (λ e. Decides e q) first.here in
     slice_get_within entries place found.value found.is
+
+-- the first of all is the first from the start on
+pub from_start : (entries : List Entry) (q : List PlainKeyAtom) (o : Option ℕ) → IsFirstDeciding entries q o
+    → IsFirstFrom 0 entries q o
+from_start entries q None none = λ k d from lt. none k d lt
+from_start entries q (Some place) first = record {
+  from = omega arith;
+  here = first.here;
+  before = λ k d from before decides.
+      let found = Found-from (slice_get entries place) (λ e. Decides e q) first.here in
+      let within : place < length entries = slice_get_within entries place found.value found.is in
+      first.before k d (omega (arith, length-take place entries, before, within))
+      (subst (λ (e : Entry). Decides e q) (sym (get_or-take place entries k d before)) decides);
+}
+
+-- and from a place on where it doesn't stand before that place
+pub first_of_all : (n : ℕ) (es : List Entry) (q : List PlainKeyAtom) (o : Option ℕ) → IsFirstFrom 0 es q o
+    → ¬ IsSomeAnd o (λ p. p < n) → IsFirstFrom n es q o
+first_of_all n es q None none not_before = λ k d from lt. none k d (omega arith) lt
+first_of_all n es q (Some place) first not_before = record {
+  from = elim (cases_lt place n) [ inl before ↦ absurd (not_before before) | inr behind ↦ behind ];
+  here = first.here;
+  before = λ k d from before. first.before k d (omega arith) before;
+}
+
+-- where none before a place decides, the first doesn't stand before it
+pub not_before : (n : ℕ) (es : List Entry) (q : List PlainKeyAtom) (o : Option ℕ) → IsFirstFrom 0 es q o
+    → IsSomeAnd o (λ p. p < n) → ¬ NoneDecides (take n es) q
+not_before n es q None first before none = before
+not_before n es q (Some place) first before none =
+    let found = Found-from (slice_get es place) (λ e. Decides e q) first.here in
+    none_at n es q none place found.value before (slice_get_within es place found.value found.is)
+    (subst (λ (e : Entry). Decides e q) (sym (get_or_from_slice_get es place found.value found.value found.is)) found.holds)

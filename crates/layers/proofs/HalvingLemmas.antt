@@ -1,8 +1,7 @@
 -- Layers each of which is at least twice as long as the next: they are few, and stay so when an entry is added.
-use Rattle.std.proofs.Common.{◌≡◌, ℕ, zero, suc, ◌+◌, ◌*◌, ◌^◌, ◌<◌, ◌≤◌, ◌∙◌, List, [], ◌∷◌, ◌++◌, length, take, drop}
+use Rattle.std.proofs.Common.{◌≡◌, ℕ, suc, ◌+◌, ◌*◌, ◌^◌, ◌<◌, ◌≤◌, ◌∙◌, List, [], ◌∷◌, ◌++◌, length, take, drop}
 use Rattle.std.proofs.Common.{get_or}
-use Rattle.std.proofs.Common.{◌⊎◌, inl, inr, arith, refl, sym, ap, subst}
-use Rattle.std.specs.List.{All}
+use Rattle.std.proofs.Common.{inl, inr, arith, sym, ap, subst}
 use Rattle.std.proofs.Math.Pow.{pow-lt}
 use Rattle.std.proofs.Math.Nat.{eq-or-lt_of_le, pow-suc}
 use Rattle.std.proofs.lemmas.Bool.{cases_lt}
@@ -116,23 +115,34 @@ count_fits layers halving few = few_layers layers halving 21 (few_enough few)
     few_enough : length (joined layers) ≤ max_entries → length (joined layers) < 2 ^ 21
     few_enough le = omega (arith, le)
 
--- the layers with an entry added, as they are put together
-module _ (layers front rest more out : List (List Entry)) (kept : ℕ) (e : Entry) (last x : List Entry)
-    (front_is : front ≡ take kept layers) (rest_is : rest ≡ drop kept layers) (more_is : more ≡ front)
-    (last_is : last ≡ joined rest ++ e ∷ []) (x_is : x ≡ last) (out_is : out ≡ more ++ x ∷ []) where
-  put_together : out ≡ take kept layers ++ (joined (drop kept layers) ++ e ∷ []) ∷ []
-  put_together = cc
-
+-- the layers with an entry added: those behind the kept ones are one layer with it
+module _ (layers out : List (List Entry)) (kept : ℕ) (e : Entry)
+    (out_is : out ≡ take kept layers ++ (joined (drop kept layers) ++ e ∷ []) ∷ []) where
   pub added_entries : joined out ≡ joined layers ++ e ∷ []
-  added_entries = ap (λ (ls : List (List Entry)). joined ls) put_together ∙ added_joined layers kept e
+  added_entries = ap (λ (ls : List (List Entry)). joined ls) out_is ∙ added_joined layers kept e
 
-  pub added_halving : AreHalving layers → kept ≤ length layers
+  added_halving : AreHalving layers → kept ≤ length layers
       → ((k : ℕ) (d : List Entry) → k + 1 ≡ kept
       → 2 * (length (joined (drop kept layers)) + 1) ≤ length (get_or layers k d))
       → AreHalving out
   added_halving halving within twice =
       let size : length (joined (drop kept layers) ++ e ∷ []) ≡ length (joined (drop kept layers)) + 1 =
       length-append (joined (drop kept layers)) (e ∷ []) in
-      subst (λ (ls : List (List Entry)). AreHalving ls) (sym put_together)
+      subst (λ (ls : List (List Entry)). AreHalving ls) (sym out_is)
       (halving_with layers kept (joined (drop kept layers) ++ e ∷ []) within halving (omega arith)
       (λ k d is. let t = twice k d is in omega arith))
+
+  pub added_version : (count : ℕ) → IsVersion layers count → count < max_entries → kept ≤ length layers
+      → ((k : ℕ) (d : List Entry) → k + 1 ≡ kept
+      → 2 * (length (joined (drop kept layers)) + 1) ≤ length (get_or layers k d))
+      → IsVersion out (count + 1)
+  added_version count version room within twice = record {
+    halving = added_halving version.halving within twice;
+    counted = omega (
+      arith,
+      version.counted,
+      ap (λ (es : List Entry). length es) added_entries,
+      length-append (joined layers) (e ∷ []),
+    );
+    few = omega arith;
+  }

@@ -1,23 +1,19 @@
--- From the least numbers that the tries of a layer give to the first entry that decides a key.
-use Rattle.std.proofs.Common.{◌≡◌, ℕ, ◌+◌, ◌*◌, ◌<◌, ◌≤◌, min, ◌∙◌, List, Option, Some, None, length, take, get_or}
-use Rattle.std.proofs.Common.{◌⊎◌, inl, inr, arith, refl, sym, ap, subst, add-mul}
-use Rattle.std.specs.Prelude.{All, Any, Contains, IsSomeAnd}
+-- From the least numbers that the tries of a layer give to the first of its entries that passes a test.
+use Rattle.std.proofs.Common.{◌≡◌, ℕ, ◌+◌, ◌<◌, ◌≤◌, ◌∙◌, List, Option, Some, None, length, take, get_or}
+use Rattle.std.proofs.Common.{◌⊎◌, inl, inr, arith, ap, subst}
+use Rattle.std.specs.Prelude.{All, Contains, IsSomeAnd}
 use Rattle.std.specs.List.{slice_get}
-use Rattle.std.proofs.lemmas.Bool.{cases_lt}
-use Rattle.std.proofs.lemmas.List.{get_or_default}
-use Rattle.std.proofs.lemmas.Option.{slice_get-get_or, get_or_from_slice_get, slice_get_within}
+use Rattle.std.proofs.lemmas.List.{get_or_default, get_or-take, length-take}
+use Rattle.std.proofs.lemmas.Option.{slice_get-get_or}
 use Rattle.lin_model.specs.KeyAtom.{PlainKeyAtom}
-use Rattle.lin_model.specs.Lists.{Found-from, IsSomeAnd-found}
-use Rattle.atom_implies.specs.Implies.{Covers}
+use Rattle.lin_model.specs.Lists.{IsSomeAnd-found}
 use Rattle.cert_check.specs.declared.entry.Entry.{Entry}
 use Rattle.cert_check.specs.declared.entry.Entry.TheVariants.{Sat, Unsat}
-use Rattle.cert_check.specs.Decides.{Decides, NoneDecides, key_of}
+use Rattle.cert_check.specs.Entries.{PlainSatEntry, PlainUnsatEntry}
+use Rattle.cert_check.specs.Decides.{IsFirst, IsFirstAt, key_of}
 use Rattle.key_tree.specs.Tree.{Pair}
-use Rattle.key_tree.specs.Held.{IsLeastAt, IsLeastOf, HavePrefixes}
-use Rattle.layers.specs.Layers.{NoneBetween, IsFirstAtFrom, IsFirstFrom}
-use Rattle.layers.specs.Least.{lesser_of}
-use Rattle.layers.specs.Tries.{satisfied_keys, cores, LayerHasNodes}
-use Rattle.layers.proofs.FirstLemmas.{none_at}
+use Rattle.key_tree.specs.Held.{IsLeastAt, IsLeastOf}
+use Rattle.layers.specs.Tries.{satisfied_keys, cores}
 use Rattle.layers.proofs.PairLemmas.{IsOfEntry, IsSatisfying, IsCore, of_satisfied, of_core, satisfied_there, core_there}
 
 -- an entry is of one kind or the other
@@ -25,25 +21,14 @@ kind_of : (e : Entry) → IsSatisfying e ⊎ IsCore e
 kind_of (Sat s) = inl tt
 kind_of (Unsat u) = inr tt
 
--- what a satisfying entry decides, its key covers, and the other way round
-covers_from : (e : Entry) (q : List PlainKeyAtom) → IsSatisfying e → Decides e q → Covers (key_of e) q
-covers_from (Sat s) q kind decides = decides
-covers_from (Unsat u) q kind decides = absurd kind
+-- a test of entries that is one of the keys of satisfied entries, and another of those of cores
+pub record TestsKeys (P : Entry → Type 0) (Satisfied Refuted : List PlainKeyAtom → Type 0) : Type 0 where
+  pub satisfied_to : (s : PlainSatEntry) → P (Sat s) → Satisfied s.key
+  pub satisfied_from : (s : PlainSatEntry) → Satisfied s.key → P (Sat s)
+  pub core_to : (u : PlainUnsatEntry) → P (Unsat u) → Refuted u.key
+  pub core_from : (u : PlainUnsatEntry) → Refuted u.key → P (Unsat u)
 
-decides_from : (e : Entry) (q : List PlainKeyAtom) → IsSatisfying e → Covers (key_of e) q → Decides e q
-decides_from (Sat s) q kind covers = covers
-decides_from (Unsat u) q kind covers = absurd kind
-
--- what a core decides, covers it, and the other way round
-covered_from : (e : Entry) (q : List PlainKeyAtom) → IsCore e → Decides e q → Covers q (key_of e)
-covered_from (Unsat u) q kind decides = decides
-covered_from (Sat s) q kind decides = absurd kind
-
-core_decides_from : (e : Entry) (q : List PlainKeyAtom) → IsCore e → Covers q (key_of e) → Decides e q
-core_decides_from (Unsat u) q kind covers = covers
-core_decides_from (Sat s) q kind covers = absurd kind
-
--- what holds of no pair, or only of those from a number on, holds of a pair that is there
+-- what holds of any pair holds of one that is there
 pair_says : (pairs : List Pair) (p : Pair) (P : Pair → Type 0) → All P pairs → Contains pairs p → P p
 pair_says pairs p P all there = subst P there.2 (all there.0 p there.1)
 
@@ -54,19 +39,6 @@ least_number Passes pairs None p least there passes =
     absurd (pair_says pairs p (λ x. ¬ Passes x.key) least there passes)
 least_number Passes pairs (Some n) p least there passes =
     pair_says pairs p (λ x. Passes x.key → n ≤ x.number) least.least there passes
-
--- the pair of an entry, under its place
-satisfied_at : (es : List Entry) (e : Entry) (k : ℕ) → k < length es → get_or es k e ≡ e → IsSatisfying e
-    → Contains (satisfied_keys 0 es) (record { key = key_of e; number = k })
-satisfied_at es e k lt is kind =
-    subst (λ (m : ℕ). Contains (satisfied_keys 0 es) (record { key = key_of e; number = m }))
-    (let same : 0 + k ≡ k = omega arith in same) (satisfied_there 0 es e k lt is kind)
-
-core_at : (es : List Entry) (e : Entry) (k : ℕ) → k < length es → get_or es k e ≡ e → IsCore e
-    → Contains (cores 0 es) (record { key = key_of e; number = k })
-core_at es e k lt is kind =
-    subst (λ (m : ℕ). Contains (cores 0 es) (record { key = key_of e; number = m }))
-    (let same : 0 + k ≡ k = omega arith in same) (core_there 0 es e k lt is kind)
 
 -- a pair of the least number
 record HasPair (Passes : List PlainKeyAtom → Type 0) (pairs : List Pair) (n : ℕ) : Type 0 where
@@ -84,162 +56,126 @@ pair_from Passes pairs n least = record {
   passes = least.here.4.1;
 }
 
--- the entries of a layer, and a key
-module _ (es : List Entry) (q : List PlainKeyAtom) where
-  -- the entry at this place decides the key, and none that decides it stands before
-  first_at : (place : ℕ) → IsSomeAnd (slice_get es place) (λ e. Decides e q)
-      → ((k : ℕ) (d : Entry) → k < length es → Decides (get_or es k d) q → place ≤ k) → place < length es
-      → IsFirstAtFrom 0 es q place
-  first_at place here least within = record {
-    from = omega arith;
-    here = here;
-    before = λ k d from before decides. absurd (let no_less = least k d (omega arith) decides in omega arith);
-  }
+-- the pair of an entry, under its place
+satisfied_at : (es : List Entry) (e : Entry) (k : ℕ) → k < length es → get_or es k e ≡ e → IsSatisfying e
+    → Contains (satisfied_keys 0 es) (record { key = key_of e; number = k })
+satisfied_at es e k lt is kind =
+    subst (λ (m : ℕ). Contains (satisfied_keys 0 es) (record { key = key_of e; number = m }))
+    (let same : 0 + k ≡ k = omega arith in same) (satisfied_there 0 es e k lt is kind)
 
-  -- what the trie of satisfied keys finds
-  module _ (s : Option ℕ) (least : IsLeastOf (λ key. Covers key q) (satisfied_keys 0 es) s) where
-    satisfied_no_less : (k : ℕ) (d : Entry) → k < length es → IsSatisfying (get_or es k d) → Decides (get_or es k d) q
-        → IsSomeAnd s (λ n. n ≤ k)
-    satisfied_no_less k d lt kind decides =
-        least_number (λ key. Covers key q) (satisfied_keys 0 es) s
-        (record { key = key_of (get_or es k d); number = k }) least
-        (satisfied_at es (get_or es k d) k lt (get_or_default es k (get_or es k d) d lt) kind)
-        (covers_from (get_or es k d) q kind decides)
+core_at : (es : List Entry) (e : Entry) (k : ℕ) → k < length es → get_or es k e ≡ e → IsCore e
+    → Contains (cores 0 es) (record { key = key_of e; number = k })
+core_at es e k lt is kind =
+    subst (λ (m : ℕ). Contains (cores 0 es) (record { key = key_of e; number = m }))
+    (let same : 0 + k ≡ k = omega arith in same) (core_there 0 es e k lt is kind)
 
-  -- what the trie of cores finds
-  module _ (u : Option ℕ) (least : IsLeastOf (λ key. Covers q key) (cores 0 es) u) where
-    core_no_less : (k : ℕ) (d : Entry) → k < length es → IsCore (get_or es k d) → Decides (get_or es k d) q
-        → IsSomeAnd u (λ n. n ≤ k)
-    core_no_less k d lt kind decides =
-        least_number (λ key. Covers q key) (cores 0 es) u
-        (record { key = key_of (get_or es k d); number = k }) least
-        (core_at es (get_or es k d) k lt (get_or_default es k (get_or es k d) d lt) kind)
-        (covered_from (get_or es k d) q kind decides)
+-- an entry that stands at a place and is of a kind
+pub record StandsAt (es : List Entry) (n : ℕ) (OfKind : Entry → Type 0) (P : Entry → Type 0) : Type 0 where
+  pub entry : Entry
+  pub kind : OfKind entry
+  pub within : n < length es
+  pub is : slice_get es n ≡ Some entry
+  pub passes : P entry
+
+-- a list of entries, and a test by keys
+module _ (es : List Entry) (P : Entry → Type 0) (Satisfied Refuted : List PlainKeyAtom → Type 0)
+    (tests : TestsKeys P Satisfied Refuted) where
+  to_satisfied : (e : Entry) → IsSatisfying e → P e → Satisfied (key_of e)
+  to_satisfied (Sat s) kind passes = tests.satisfied_to s passes
+  to_satisfied (Unsat u) kind passes = absurd kind
+
+  from_satisfied : (e : Entry) → IsSatisfying e → Satisfied (key_of e) → P e
+  from_satisfied (Sat s) kind passes = tests.satisfied_from s passes
+  from_satisfied (Unsat u) kind passes = absurd kind
+
+  to_core : (e : Entry) → IsCore e → P e → Refuted (key_of e)
+  to_core (Unsat u) kind passes = tests.core_to u passes
+  to_core (Sat s) kind passes = absurd kind
+
+  from_core : (e : Entry) → IsCore e → Refuted (key_of e) → P e
+  from_core (Unsat u) kind passes = tests.core_from u passes
+  from_core (Sat s) kind passes = absurd kind
 
   -- the entry of a pair stands at its number
-  entry_at : (p : Pair) (n : ℕ) (OfKind : Entry → Type 0) → p.number ≡ n → (of : IsOfEntry 0 es p OfKind)
-      → (n < length es) × (slice_get es n ≡ Some of.entry)
-  entry_at p n OfKind same of =
+  entry_at : (p : Pair) (n : ℕ) (OfKind : Entry → Type 0) → p.number ≡ n → (of : IsOfEntry 0 es p OfKind) → P of.entry
+      → StandsAt es n OfKind P
+  entry_at p n OfKind same of passes =
       let place : of.numbered.place ≡ n = omega (arith, of.numbered.number_is, same) in
-      let within : n < length es = let lt = of.numbered.within in omega arith in (
-        within,
-        slice_get-get_or es n of.entry within
+      let within : n < length es = let lt = of.numbered.within in omega arith in
+      record {
+        entry = of.entry;
+        kind = of.kind;
+        within = within;
+        is = slice_get-get_or es n of.entry within
             ∙ ap (λ (e : Entry). Some e)
-            (subst (λ (m : ℕ). get_or es m of.entry ≡ of.entry) place of.numbered.is),
-      )
+            (subst (λ (m : ℕ). get_or es m of.entry ≡ of.entry) place of.numbered.is);
+        passes = passes;
+      }
 
-  -- a satisfying entry that was found decides
-  satisfied_here : (n : ℕ) → IsLeastAt (λ key. Covers key q) (satisfied_keys 0 es) n
-      → (n < length es) × IsSomeAnd (slice_get es n) (λ e. Decides e q)
+  -- the entry that the trie of satisfied keys found, and the one that the trie of cores found
+  satisfied_here : (n : ℕ) → IsLeastAt Satisfied (satisfied_keys 0 es) n → StandsAt es n IsSatisfying P
   satisfied_here n least =
-      let has = pair_from (λ key. Covers key q) (satisfied_keys 0 es) n least in
+      let has = pair_from Satisfied (satisfied_keys 0 es) n least in
       let of = of_satisfied 0 es has.pair has.there in
-      let at = entry_at has.pair n IsSatisfying has.number of in (
-        at.0,
-        IsSomeAnd-found (slice_get es n) (λ e. Decides e q) of.entry at.1
-            (decides_from of.entry q of.kind (subst (λ (key : List PlainKeyAtom). Covers key q) of.key has.passes)),
-      )
+      entry_at has.pair n IsSatisfying has.number of
+      (from_satisfied of.entry of.kind (subst Satisfied of.key has.passes))
 
-  -- a core that was found decides
-  core_here : (n : ℕ) → IsLeastAt (λ key. Covers q key) (cores 0 es) n
-      → (n < length es) × IsSomeAnd (slice_get es n) (λ e. Decides e q)
+  core_here : (n : ℕ) → IsLeastAt Refuted (cores 0 es) n → StandsAt es n IsCore P
   core_here n least =
-      let has = pair_from (λ key. Covers q key) (cores 0 es) n least in
+      let has = pair_from Refuted (cores 0 es) n least in
       let of = of_core 0 es has.pair has.there in
-      let at = entry_at has.pair n IsCore has.number of in (
-        at.0,
-        IsSomeAnd-found (slice_get es n) (λ e. Decides e q) of.entry at.1
-            (core_decides_from of.entry q of.kind (subst (λ (key : List PlainKeyAtom). Covers q key) of.key has.passes)),
-      )
+      entry_at has.pair n IsCore has.number of (from_core of.entry of.kind (subst Refuted of.key has.passes))
 
-  -- the lesser of both is the first entry that decides
-  pub first_of_both : (s u : Option ℕ) → IsLeastOf (λ key. Covers key q) (satisfied_keys 0 es) s
-      → IsLeastOf (λ key. Covers q key) (cores 0 es) u → IsFirstFrom 0 es q (lesser_of s u)
-  first_of_both None None satisfied refuted = λ k d from lt decides. elim (kind_of (get_or es k d)) [
-    | inl kind ↦ satisfied_no_less None satisfied k d lt kind decides
-    | inr kind ↦ core_no_less None refuted k d lt kind decides
+  -- none of the kind that passes stands before what the trie found
+  satisfied_no_less : (o : Option ℕ) (k : ℕ) (d : Entry) → IsLeastOf Satisfied (satisfied_keys 0 es) o → k < length es
+      → IsSatisfying (get_or es k d) → P (get_or es k d) → IsSomeAnd o (λ n. n ≤ k)
+  satisfied_no_less o k d least lt kind passes =
+      least_number Satisfied (satisfied_keys 0 es) o
+      (record { key = key_of (get_or es k d); number = k }) least
+      (satisfied_at es (get_or es k d) k lt (get_or_default es k (get_or es k d) d lt) kind)
+      (to_satisfied (get_or es k d) kind passes)
+
+  core_no_less : (o : Option ℕ) (k : ℕ) (d : Entry) → IsLeastOf Refuted (cores 0 es) o → k < length es
+      → IsCore (get_or es k d) → P (get_or es k d) → IsSomeAnd o (λ n. n ≤ k)
+  core_no_less o k d least lt kind passes =
+      least_number Refuted (cores 0 es) o
+      (record { key = key_of (get_or es k d); number = k }) least
+      (core_at es (get_or es k d) k lt (get_or_default es k (get_or es k d) d lt) kind)
+      (to_core (get_or es k d) kind passes)
+
+  -- the first of all, where no entry that passes stands before it
+  first_there : (n : ℕ) (OfKind : Entry → Type 0) → StandsAt es n OfKind P
+      → ((k : ℕ) (d : Entry) → k < length es → P (get_or es k d) → n ≤ k) → IsFirstAt P es n
+  first_there n OfKind there no_less = record {
+    here = IsSomeAnd-found (slice_get es n) P there.entry there.is there.passes;
+    before = λ k d lt passes.
+        let below : k < n = omega (arith, length-take n es) in
+        let within : k < length es = omega (arith, length-take n es) in
+        let same : get_or (take n es) k d ≡ get_or es k d = get_or-take n es k d below in
+        absurd (let no_less_here = no_less k d within (subst P same passes) in omega arith);
+  }
+
+  -- where the trie of satisfied keys found an entry, and none such passes together with a core, it is the first
+  pub first_satisfied : (n : ℕ)
+      → ((a : Entry) (k : ℕ) (d : Entry) → slice_get es n ≡ Some a → IsSatisfying a → P a → k < length es
+      → IsCore (get_or es k d) → P (get_or es k d) → ⊥)
+      → IsLeastAt Satisfied (satisfied_keys 0 es) n → IsFirstAt P es n
+  first_satisfied n apart least =
+      let there = satisfied_here n least in
+      first_there n IsSatisfying there (λ k d lt passes. elim (kind_of (get_or es k d)) [
+        | inl kind ↦ satisfied_no_less (Some n) k d least lt kind passes
+        | inr kind ↦ absurd (apart there.entry k d there.is there.kind there.passes lt kind passes)
+      ])
+
+  -- where it found none, the first is the one that the trie of cores found
+  pub first_core : (o : Option ℕ) → IsLeastOf Satisfied (satisfied_keys 0 es) None → IsLeastOf Refuted (cores 0 es) o
+      → IsFirst P es o
+  first_core None none least = λ k d lt passes. elim (kind_of (get_or es k d)) [
+    | inl kind ↦ satisfied_no_less None k d none lt kind passes
+    | inr kind ↦ core_no_less None k d least lt kind passes
   ]
-  first_of_both (Some a) None satisfied refuted =
-      let here = satisfied_here a satisfied in
-      first_at a here.1 (λ k d lt decides. elim (kind_of (get_or es k d)) [
-        | inl kind ↦ satisfied_no_less (Some a) satisfied k d lt kind decides
-        | inr kind ↦ absurd (core_no_less None refuted k d lt kind decides)
-      ]) here.0
-  first_of_both None (Some b) satisfied refuted =
-      let here = core_here b refuted in
-      first_at b here.1 (λ k d lt decides. elim (kind_of (get_or es k d)) [
-        | inl kind ↦ absurd (satisfied_no_less None satisfied k d lt kind decides)
-        | inr kind ↦ core_no_less (Some b) refuted k d lt kind decides
-      ]) here.0
-  first_of_both (Some a) (Some b) satisfied refuted =
-      let no_less : (k : ℕ) (d : Entry) → k < length es → Decides (get_or es k d) q → min a b ≤ k =
-      λ k d lt decides. elim (kind_of (get_or es k d)) [
-        | inl kind ↦ let is = satisfied_no_less (Some a) satisfied k d lt kind decides in omega arith
-        | inr kind ↦ let is = core_no_less (Some b) refuted k d lt kind decides in omega arith
-      ] in
-      elim (cases_lt b a) [
-        | inl less ↦
-            let here = core_here b refuted in
-            let is : b ≡ min a b = omega arith in
-            subst (λ (n : ℕ). IsFirstAtFrom 0 es q n) is
-            (first_at b here.1 (λ k d lt decides. let le = no_less k d lt decides in omega arith) here.0)
-        | inr not_less ↦
-            let here = satisfied_here a satisfied in
-            let is : a ≡ min a b = omega arith in
-            subst (λ (n : ℕ). IsFirstAtFrom 0 es q n) is
-            (first_at a here.1 (λ k d lt decides. let le = no_less k d lt decides in omega arith) here.0)
-      ]
-
--- the steps of both walks
-pub both_costs : (es : List Entry) (each nodes before mid after : ℕ) (satisfied refuted : List Pair)
-    → satisfied ≡ satisfied_keys 0 es → refuted ≡ cores 0 es
-    → ((n : ℕ) → HavePrefixes satisfied n → mid ≤ before + n * each)
-    → ((n : ℕ) → HavePrefixes refuted n → after ≤ mid + n * each) → LayerHasNodes es nodes
-    → after ≤ before + nodes * each
-both_costs es each nodes before mid after satisfied refuted is_satisfied are_cores first second has =
-    let one = first has.satisfied
-    (subst (λ (ps : List Pair). HavePrefixes ps has.satisfied) (sym is_satisfied) has.of_satisfied) in
-    let two = second has.refuted
-    (subst (λ (ps : List Pair). HavePrefixes ps has.refuted) (sym are_cores) has.of_refuted) in
-    let together : nodes * each ≡ has.satisfied * each + has.refuted * each =
-    ap (λ (n : ℕ). n * each) has.together ∙ add-mul has.satisfied has.refuted each in
-    omega arith
-
--- the same, of the layer as it was read
-pub first_read : (es : List Entry) (q : List PlainKeyAtom) (satisfied refuted : List Pair) (s u o : Option ℕ)
-    → satisfied ≡ satisfied_keys 0 es → refuted ≡ cores 0 es → IsLeastOf (λ key. Covers key q) satisfied s
-    → IsLeastOf (λ key. Covers q key) refuted u → o ≡ lesser_of s u → IsFirstFrom 0 es q o
-first_read es q satisfied refuted s u o is_satisfied are_cores first second is =
-    subst (λ (p : Option ℕ). IsFirstFrom 0 es q p) (sym is) (first_of_both es q s u
-    (subst (λ (ps : List Pair). IsLeastOf (λ key. Covers key q) ps s) is_satisfied first)
-    (subst (λ (ps : List Pair). IsLeastOf (λ key. Covers q key) ps u) are_cores second))
-
--- the layer's nodes are those of both tries
-pub both_nodes : (es : List Entry) (satisfied refuted : List Pair) (m n nodes : ℕ) → satisfied ≡ satisfied_keys 0 es
-    → refuted ≡ cores 0 es → HavePrefixes satisfied m → HavePrefixes refuted n → nodes ≡ m + n → LayerHasNodes es nodes
-both_nodes es satisfied refuted m n nodes is_satisfied are_cores first second together = record {
-  satisfied = m;
-  refuted = n;
-  of_satisfied = subst (λ (ps : List Pair). HavePrefixes ps m) is_satisfied first;
-  of_refuted = subst (λ (ps : List Pair). HavePrefixes ps n) are_cores second;
-  together = together;
-}
-
--- the first of all is the first from a place on where it doesn't stand before that place
-pub first_of_all : (n : ℕ) (es : List Entry) (q : List PlainKeyAtom) (o : Option ℕ) → IsFirstFrom 0 es q o
-    → ¬ IsSomeAnd o (λ p. p < n) → IsFirstFrom n es q o
-first_of_all n es q None none not_before = λ k d from lt. none k d (omega arith) lt
-first_of_all n es q (Some place) first not_before = record {
-  from = elim (cases_lt place n) [ inl before ↦ absurd (not_before before) | inr behind ↦ behind ];
-  here = first.here;
-  before = λ k d from before. first.before k d (omega arith) before;
-}
-
--- where none before a place decides, the first doesn't stand before it
-pub not_before : (n : ℕ) (es : List Entry) (q : List PlainKeyAtom) (o : Option ℕ) → IsFirstFrom 0 es q o
-    → IsSomeAnd o (λ p. p < n) → ¬ NoneDecides (take n es) q
-not_before n es q None first before none = before
-not_before n es q (Some place) first before none =
-    let found = Found-from (slice_get es place) (λ e. Decides e q) first.here in
-    none_at n es q none place found.value before (slice_get_within es place found.value found.is)
-    (subst (λ (e : Entry). Decides e q) (sym (get_or_from_slice_get es place found.value found.value found.is)) found.holds)
+  first_core (Some n) none least =
+      first_there n IsCore (core_here n least) (λ k d lt passes. elim (kind_of (get_or es k d)) [
+        | inl kind ↦ absurd (satisfied_no_less None k d none lt kind passes)
+        | inr kind ↦ core_no_less (Some n) k d least lt kind passes
+      ])

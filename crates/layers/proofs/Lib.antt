@@ -3,4 +3,7 @@ mod HalvingLemmas
 mod FirstLemmas
 mod PairLemmas
 mod LeastLemmas
+mod LayerLemmas
 mod NodeLemmas
+mod FlagLemmas
+mod FlagGrowth

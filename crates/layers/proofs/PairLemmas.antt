@@ -1,14 +1,13 @@
 -- The keys of a list of entries, each under its place.
 use Rattle.std.proofs.Common.{◌≡◌, ℕ, zero, suc, ◌+◌, ◌<◌, ◌∙◌, List, [], ◌∷◌, ◌++◌, length, take, get_or}
-use Rattle.std.proofs.Common.{◌⊎◌, inl, inr, arith, refl, sym, ap, subst}
+use Rattle.std.proofs.Common.{inl, inr, arith, refl, sym, ap, subst}
 use Rattle.std.specs.Prelude.{All, Contains}
-use Rattle.std.proofs.lemmas.List.{append-nil, length-take, take_more, get_or_default}
-use Rattle.lin_model.specs.KeyAtom.{PlainKeyAtom}
+use Rattle.std.proofs.lemmas.List.{length-take, take_more, get_or_default}
+use Rattle.std.proofs.lemmas.List.Elements.{All-push}
 use Rattle.lin_model.specs.Lists.{Contains-first, Contains-later, Contains-cases, nothing_in_nil}
 use Rattle.cert_check.specs.declared.entry.Entry.{Entry}
 use Rattle.cert_check.specs.declared.entry.Entry.TheVariants.{Sat, Unsat}
-use Rattle.cert_check.specs.Entries.{PlainSatEntry, PlainUnsatEntry}
-use Rattle.cert_check.specs.Decides.{key_of}
+use Rattle.cert_check.specs.Decides.{IsChecked, key_of}
 use Rattle.key_tree.specs.Tree.{Pair}
 use Rattle.layers.specs.Tries.{satisfied_keys, cores}
 
@@ -158,7 +157,7 @@ core_there n (Sat s ∷ es) e (suc k) within is kind =
 module _ (es : List Entry) (i : ℕ) (item e : Entry) (within : i < length es) (is : item ≡ get_or es i item)
     (read : e ≡ item) where
   -- the front with it
-  front_more : take (i + 1) es ≡ take i es ++ e ∷ []
+  pub front_more : take (i + 1) es ≡ take i es ++ e ∷ []
   front_more = take_more es i item within
       ∙ ap (λ (x : Entry). take i es ++ x ∷ []) (sym (read ∙ is))
 
@@ -166,44 +165,25 @@ module _ (es : List Entry) (i : ℕ) (item e : Entry) (within : i < length es) (
   place_is : i ≡ 0 + length (take i es)
   place_is = omega (arith, length-take i es)
 
-  -- what it adds to the keys
-  keys_more : satisfied_keys 0 (take (i + 1) es) ≡ satisfied_keys 0 (take i es) ++ satisfied_keys i (e ∷ [])
-  keys_more = ap (satisfied_keys 0) front_more ∙ satisfied_keys-push 0 (take i es) e
-      ∙ ap (λ (m : ℕ). satisfied_keys 0 (take i es) ++ satisfied_keys m (e ∷ [])) (sym place_is)
-
-  cores_more : cores 0 (take (i + 1) es) ≡ cores 0 (take i es) ++ cores i (e ∷ [])
-  cores_more = ap (cores 0) front_more ∙ cores-push 0 (take i es) e
-      ∙ ap (λ (m : ℕ). cores 0 (take i es) ++ cores m (e ∷ [])) (sym place_is)
-
-  -- a satisfied key more, or a core that adds none
-  pub satisfied_more : (s : PlainSatEntry) (key : List PlainKeyAtom) (old new : List Pair) → e ≡ Sat s → key ≡ s.key
-      → old ≡ satisfied_keys 0 (take i es) → new ≡ old ++ record { key = key; number = i } ∷ []
+  -- what it adds to the satisfied keys, and to the cores
+  pub keys_more : (old new : List Pair) → old ≡ satisfied_keys 0 (take i es) → new ≡ old ++ satisfied_keys i (e ∷ [])
       → new ≡ satisfied_keys 0 (take (i + 1) es)
-  satisfied_more s key old new sat same before grown =
-      grown ∙ ap (λ (k : List PlainKeyAtom). old ++ record { key = k; number = i } ∷ []) same
-      ∙ ap (λ (ps : List Pair). ps ++ record { key = s.key; number = i } ∷ []) before
-      ∙ sym (keys_more ∙ ap (λ (x : Entry). satisfied_keys 0 (take i es) ++ satisfied_keys i (x ∷ [])) sat)
+  keys_more old new before grown =
+      grown ∙ ap (λ (ps : List Pair). ps ++ satisfied_keys i (e ∷ [])) before
+      ∙ sym (ap (satisfied_keys 0) front_more ∙ satisfied_keys-push 0 (take i es) e
+      ∙ ap (λ (m : ℕ). satisfied_keys 0 (take i es) ++ satisfied_keys m (e ∷ [])) (sym place_is))
 
-  pub satisfied_same : (u : PlainUnsatEntry) (old : List Pair) → e ≡ Unsat u → old ≡ satisfied_keys 0 (take i es)
-      → old ≡ satisfied_keys 0 (take (i + 1) es)
-  satisfied_same u old unsat before =
-      before ∙ sym (keys_more ∙ ap (λ (x : Entry). satisfied_keys 0 (take i es) ++ satisfied_keys i (x ∷ [])) unsat
-      ∙ append-nil (satisfied_keys 0 (take i es)))
-
-  -- a core more, or a satisfied key that adds none
-  pub core_more : (u : PlainUnsatEntry) (key : List PlainKeyAtom) (old new : List Pair) → e ≡ Unsat u → key ≡ u.key
-      → old ≡ cores 0 (take i es) → new ≡ old ++ record { key = key; number = i } ∷ []
+  pub cores_more : (old new : List Pair) → old ≡ cores 0 (take i es) → new ≡ old ++ cores i (e ∷ [])
       → new ≡ cores 0 (take (i + 1) es)
-  core_more u key old new unsat same before grown =
-      grown ∙ ap (λ (k : List PlainKeyAtom). old ++ record { key = k; number = i } ∷ []) same
-      ∙ ap (λ (ps : List Pair). ps ++ record { key = u.key; number = i } ∷ []) before
-      ∙ sym (cores_more ∙ ap (λ (x : Entry). cores 0 (take i es) ++ cores i (x ∷ [])) unsat)
+  cores_more old new before grown =
+      grown ∙ ap (λ (ps : List Pair). ps ++ cores i (e ∷ [])) before
+      ∙ sym (ap (cores 0) front_more ∙ cores-push 0 (take i es) e
+      ∙ ap (λ (m : ℕ). cores 0 (take i es) ++ cores m (e ∷ [])) (sym place_is))
 
-  pub core_same : (s : PlainSatEntry) (old : List Pair) → e ≡ Sat s → old ≡ cores 0 (take i es)
-      → old ≡ cores 0 (take (i + 1) es)
-  core_same s old sat before =
-      before ∙ sym (cores_more ∙ ap (λ (x : Entry). cores 0 (take i es) ++ cores i (x ∷ [])) sat
-      ∙ append-nil (cores 0 (take i es)))
+  -- all so far are checked, and this one too
+  pub checked_more : All IsChecked (take i es) → IsChecked e → All IsChecked (take (i + 1) es)
+  checked_more before this =
+      subst (λ (xs : List Entry). All IsChecked xs) (sym front_more) (All-push IsChecked (take i es) e before this)
 
 -- the numbers of the front's pairs are below its length
 pub satisfied_below : (es : List Entry) (i : ℕ) (pairs : List Pair) → i < length es

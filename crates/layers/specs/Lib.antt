@@ -1,4 +1,4 @@
 pub mod Layers
+pub mod Firsts
 pub mod Tries
-pub mod Least
 pub mod Halving

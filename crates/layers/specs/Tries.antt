@@ -1,7 +1,9 @@
 -- The keys of a layer as its tries hold them, each under the place of its entry, and how many prefixes they have.
-use Rattle.std.specs.Prelude.{◌≡◌, ℕ, ◌+◌, List, [], ◌∷◌}
+use Rattle.std.specs.Prelude.{◌≡◌, ℕ, ◌+◌, ◌≤◌, All, List, [], ◌∷◌, length}
 use Rattle.cert_check.specs.declared.entry.Entry.{Entry}
 use Rattle.cert_check.specs.declared.entry.Entry.TheVariants.{Sat, Unsat}
+use Rattle.cert_check.specs.Decides.{IsChecked}
+use Rattle.cert_check.specs.Machine.{max_entries}
 use Rattle.key_tree.specs.Tree.{Pair}
 use Rattle.key_tree.specs.Held.{HavePrefixes}
 
@@ -16,6 +18,14 @@ abbrev pub cores : ℕ → List Entry → List Pair
 cores n [] = []
 cores n (Sat e ∷ es) = cores (n + 1) es
 cores n (Unsat e ∷ es) = record { key = e.key; number = n } ∷ cores (n + 1) es
+
+-- what a layer keeps: it isn't too long, these pairs are those of its satisfied keys and these of its cores, and each of
+-- its entries is checked
+pub record IsLayer (entries : List Entry) (satisfied refuted : List Pair) : Type 0 where
+  pub few : length entries ≤ max_entries
+  pub keys : satisfied ≡ satisfied_keys 0 entries
+  pub cores_are : refuted ≡ cores 0 entries
+  pub checked : All IsChecked entries
 
 -- so many lists, other than the empty one, are prefixes of the layer's satisfied keys or of its cores, those that are both
 -- counted twice

@@ -1,13 +1,13 @@
 //! One layer of a list of entries.
 ghost use Rattle.std.specs.Prelude.{◌≡◌, ◌↔◌, ◌+◌, ◌*◌, ◌^◌, ◌<◌, ◌≤◌, ℕ, [], Some, IfOk, IsSomeAnd, IsTrue, length, slice_get, take};
 ghost use Rattle.cert_check.specs.Machine.{max_entries};
-ghost use Rattle.cert_check.specs.Decides.{NoneDecides};
+ghost use Rattle.cert_check.specs.Decides.{NoneDecides, IsFirst, key_of};
 ghost use Rattle.layers.specs.Layers.{IsFirstFrom};
-ghost use Rattle.layers.specs.Tries.{satisfied_keys, cores, LayerHasNodes};
+ghost use Rattle.layers.specs.Tries.{LayerHasNodes};
 
-use crate::tries::{core_trie, lesser, satisfied_trie};
+use crate::tries::{Tries, tries_of};
 use atom_implies::Steps;
-use cert_check::{Entry, Shared, decides};
+use cert_check::{Entry, Shared, decides, deciding_entries_settle, entries_decide_their_keys};
 use key_tree::Asked;
 use lin_model::Key;
 use outside::NoMemory;
@@ -26,18 +26,15 @@ pub struct Layer {
 }
 
 impl Model for Layer {
-    ghost use Rattle.std.specs.Prelude.{List, ◌≡◌, ◌≤◌, length};
+    ghost use Rattle.std.specs.Prelude.{List};
     ghost use Rattle.cert_check.specs.declared.entry.Entry.{Entry};
-    ghost use Rattle.cert_check.specs.Machine.{max_entries};
-    ghost use Rattle.layers.specs.Tries.{satisfied_keys, cores};
+    ghost use Rattle.layers.specs.Tries.{IsLayer};
 
     ghost Value = { List Entry };
 
     ghost view = { λ layer. layer.entries.items };
 
-    ghost invariant = { λ layer. (length layer.entries.items ≤ max_entries)
-        × (layer.satisfied ≡ satisfied_keys 0 layer.entries.items)
-        × (layer.refuted ≡ cores 0 layer.entries.items) };
+    ghost invariant = { λ layer. IsLayer layer.entries.items layer.satisfied layer.refuted };
 }
 
 impl Layer {
@@ -46,8 +43,7 @@ impl Layer {
         requires { length entries.items ≤ max_entries }
         ensures { IfOk result (λ layer. layer ≡ entries.items) }
     {
-        let satisfied = satisfied_trie(alloc, &entries)?;
-        let refuted = core_trie(alloc, &entries)?;
+        let Tries { satisfied, refuted } = tries_of(alloc, &entries)?;
         Ok(Layer {
             entries,
             satisfied,
@@ -86,6 +82,18 @@ impl Layer {
         self.satisfied.nodes() + self.refuted.nodes()
     }
 
+    /// The least place, from 0, of an entry whose key is this one, or none. It takes no steps and no memory.
+    pub fn find(&self, key: &Key) -> Option<u32>
+        ensures { IsFirst (λ e. key_of e ≡ key.now) self.now result }
+    {
+        entries_decide_their_keys();
+        deciding_entries_settle();
+        match self.satisfied.find(key) {
+            Some(place) => Some(place),
+            None => self.refuted.find(key),
+        }
+    }
+
     /// The least place at or after n, from 0, of an entry that decides the key. The tries are walked; only where they
     /// find one before n are the entries from n on tried one after another. So where none before n decides the key, it
     /// takes at most `nodes()` steps for each of its atoms.
@@ -101,14 +109,17 @@ impl Layer {
         first
     }
 
-    /// The least place of an entry that decides the key.
+    /// The least place of an entry that decides the key. Where a satisfied key of the layer decides it, no core does: the
+    /// key has a point.
     fn first<L: Ledger>(&self, asked: &Asked, steps: &mut Steps<L>) -> Option<u32>
         ensures first { IsFirstFrom 0 self.now asked.now result }
         ensures cost { (nodes : ℕ) → LayerHasNodes self.now nodes → steps.new ≤ steps.old + nodes * length asked.now }
     {
-        let satisfied = self.satisfied.first_for(asked, steps);
-        let refuted = self.refuted.first_for(asked, steps);
-        lesser(satisfied, refuted)
+        deciding_entries_settle();
+        match self.satisfied.first_for(asked, steps) {
+            Some(place) => Some(place),
+            None => self.refuted.first_for(asked, steps),
+        }
     }
 
     /// The least place at or after n of an entry that decides the key, each entry being tried in turn.

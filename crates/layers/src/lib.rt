@@ -1,8 +1,10 @@
 //! Frozen lists of entries in layers, and the first entry that decides a key.
 #![tactic(auto)]
 
+mod firsts;
 mod laws;
 mod layer;
+mod sharing;
 mod tries;
 mod version;
 

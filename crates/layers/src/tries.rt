@@ -1,8 +1,8 @@
 //! The tries of a layer.
-ghost use Rattle.std.specs.Prelude.{◌≡◌, ◌≤◌, IfOk, length};
+ghost use Rattle.std.specs.Prelude.{◌≡◌, ◌<◌, ◌≤◌, [], ◌∷◌, ◌++◌, All, IfOk, OnOk, length};
+ghost use Rattle.cert_check.specs.Decides.{IsChecked};
 ghost use Rattle.cert_check.specs.Machine.{max_entries};
-ghost use Rattle.layers.specs.Tries.{satisfied_keys, cores};
-ghost use Rattle.layers.specs.Least.{lesser_of};
+ghost use Rattle.layers.specs.Tries.{satisfied_keys, cores, IsLayer};
 
 use cert_check::{Entry, Shared};
 use outside::NoMemory;
@@ -10,41 +10,42 @@ use sat_trie::SatTrie;
 use std::alloc::Global;
 use unsat_trie::UnsatTrie;
 
-/// The trie of the satisfied keys among the entries, each under the place of its entry.
-pub(crate) fn satisfied_trie(alloc: Global, entries: &[Shared<Entry>]) -> Result<SatTrie, NoMemory>
-    requires { length entries.now ≤ max_entries }
-    ensures { IfOk result (λ trie. trie ≡ satisfied_keys 0 entries.now) }
-{
-    let mut trie = SatTrie::new(alloc);
-    for (place, entry) in entries.iter().enumerate() {
-        if let Entry::Sat(entry) = entry.get() {
-            trie.insert(entry.key(), place as u32)?;
-        }
-    }
-    Ok(trie)
+/// The satisfied keys and the cores of a layer, each under the place of its entry.
+#[derive(Drop)]
+pub(crate) struct Tries {
+    /// The satisfied keys.
+    pub(crate) satisfied: SatTrie,
+    /// The cores.
+    pub(crate) refuted: UnsatTrie,
 }
 
-/// The trie of the cores among the entries, each under the place of its entry.
-pub(crate) fn core_trie(alloc: Global, entries: &[Shared<Entry>]) -> Result<UnsatTrie, NoMemory>
+/// The tries of these entries.
+pub(crate) fn tries_of(alloc: Global, entries: &[Shared<Entry>]) -> Result<Tries, NoMemory>
     requires { length entries.now ≤ max_entries }
-    ensures { IfOk result (λ trie. trie ≡ cores 0 entries.now) }
+    ensures { IfOk result (λ tries. IsLayer entries.now tries.satisfied tries.refuted) }
 {
-    let mut trie = UnsatTrie::new(alloc);
+    let mut tries = Tries {
+        satisfied: SatTrie::new(alloc),
+        refuted: UnsatTrie::new(alloc),
+    };
     for (place, entry) in entries.iter().enumerate() {
-        if let Entry::Unsat(entry) = entry.get() {
-            trie.insert(entry.key(), place as u32)?;
-        }
+        hold(&mut tries, entry.get(), place as u32)?;
     }
-    Ok(trie)
+    Ok(tries)
 }
 
-/// The lesser of two places, where there are any.
-pub(crate) fn lesser(a: Option<u32>, b: Option<u32>) -> Option<u32>
-    ensures { result ≡ lesser_of a b }
+/// Holds the key of an entry under its place, which is behind those of all keys that are held.
+fn hold(tries: &mut Tries, entry: &Entry, place: u32) -> Result<(), NoMemory>
+    requires satisfied { All (λ p. p.number < place) tries.old.satisfied }
+    requires refuted { All (λ p. p.number < place) tries.old.refuted }
+    ensures satisfied { OnOk result (tries.new.satisfied
+        ≡ tries.old.satisfied ++ satisfied_keys place (entry.now ∷ [])) }
+    ensures refuted { OnOk result (tries.new.refuted ≡ tries.old.refuted ++ cores place (entry.now ∷ [])) }
+    ensures checked { IsChecked entry.now }
 {
-    match (a, b) {
-        (Some(a), Some(b)) => Some(a.min(b)),
-        (Some(a), None) => Some(a),
-        (None, b) => b,
+    let key = entry.key();
+    match entry {
+        Entry::Sat(_) => tries.satisfied.insert(key, place),
+        Entry::Unsat(_) => tries.refuted.insert(key, place),
     }
 }

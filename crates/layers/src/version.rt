@@ -1,29 +1,33 @@
 //! A frozen list of entries.
-ghost use Rattle.std.specs.Prelude.{◌≡◌, ◌+◌, ◌*◌, ◌<◌, ◌≤◌, [], ◌∷◌, ◌++◌, Some, IfOk, OnOk, length, take, drop};
+ghost use Rattle.std.specs.Prelude.{◌≡◌, ◌↔◌, ◌+◌, ◌*◌, ◌<◌, ◌≤◌, [], ◌∷◌, ◌++◌, Some, IfOk, IfSome, IsTrue, length, take, drop};
 ghost use Rattle.std.specs.Prelude.{slice_get};
 ghost use Rattle.std.specs.Prelude.{slice_index_or, ℕ, List};
 ghost use Rattle.cert_check.specs.Decides.{IsFirstDeciding, NoneDecides};
 ghost use Rattle.cert_check.specs.Machine.{max_entries};
 ghost use Rattle.cert_check.specs.declared.entry.Entry.{Entry as AnyEntry};
-ghost use Rattle.layers.specs.Layers.{IsFirstFrom, joined};
+ghost use Rattle.layers.specs.Layers.{IsFirstAtFrom, IsFirstFrom, joined};
 ghost use Rattle.layers.specs.Tries.{LayersHaveNodes};
 ghost use Rattle.layers.specs.Halving.{AreHalving, IsVersion, IsWithinDigits};
 
+use crate::firsts::{Firsts, own_place, with_flag};
 use crate::layer::Layer;
+use crate::sharing::{share_into, with_last};
 use atom_implies::Steps;
 use cert_check::{Entry, Shared};
 use key_tree::Asked;
 use lin_model::Key;
 use outside::NoMemory;
 use std::alloc::Global;
-use std::marker::Model;
-use std::sync::ledger::Ledger;
+use std::marker::{Brand, Model};
+use std::sync::ledger::{Blank, Ledger};
 
 /// A list of at most 2^20 entries that never changes, in layers that versions share, each with its tries. Each layer is at
-/// least twice as long as the next, so there are no more layers than the length has binary digits.
+/// least twice as long as the next, so there are no more layers than the length has binary digits. Beside each layer stand
+/// flags: of which of its entries it is known that no entry before decides their keys.
 #[derive(Drop)]
 pub struct Version {
     layers: Vec<Shared<Layer>>,
+    firsts: Vec<Shared<Firsts>>,
     len: u32,
 }
 
@@ -31,12 +35,14 @@ impl Model for Version {
     ghost use Rattle.std.specs.Prelude.{List};
     ghost use Rattle.cert_check.specs.declared.entry.Entry.{Entry};
     ghost use Rattle.layers.specs.Halving.{IsVersion};
+    ghost use Rattle.layers.specs.Firsts.{AreFirsts};
 
     ghost Value = { List (List Entry) };
 
     ghost view = { λ version. version.layers.items };
 
-    ghost invariant = { λ version. IsVersion version.layers.items version.len };
+    ghost invariant = { λ version. IsVersion version.layers.items version.len
+        × AreFirsts version.layers.items version.firsts.items };
 }
 
 impl Version {
@@ -45,12 +51,21 @@ impl Version {
         requires { length entries.items ≤ max_entries }
         ensures { IfOk result (λ version. joined version ≡ entries.items) }
     {
-        let len = entries.len() as u32;
-        let mut layers = Vec::new(alloc);
-        if len > 0 {
-            layers.push(Shared::new(alloc, Layer::of(alloc, entries)?)?)?;
+        if entries.is_empty() {
+            return Ok(Version {
+                layers: Vec::new(alloc),
+                firsts: Vec::new(alloc),
+                len: 0,
+            });
         }
-        Ok(Version { layers, len })
+        let len = entries.len() as u32;
+        let firsts = Firsts::unset(alloc, entries.len())?;
+        let layer = Layer::of(alloc, entries)?;
+        Ok(Version {
+            layers: with_last(alloc, &[], layer)?,
+            firsts: with_last(alloc, &[], firsts)?,
+            len,
+        })
     }
 
     /// The list with the entry at its end. The layers that are less than twice as long as what is behind them become
@@ -59,11 +74,14 @@ impl Version {
         requires { length (joined self.now) < max_entries }
         ensures { IfOk result (λ version. joined version ≡ joined self.now ++ entry ∷ []) }
     {
-        let len = self.len();
-        let layers = with_entry(alloc, &self.layers, entry)?;
+        let is_first = self.is_undecided(entry.get().key());
+        let kept = kept_layers(&self.layers);
+        let firsts = with_flag(alloc, &self.firsts, kept, is_first)?;
+        let layers = with_entry(alloc, &self.layers, kept, entry)?;
         Ok(Version {
             layers,
-            len: len + 1,
+            firsts,
+            len: self.len + 1,
         })
     }
 
@@ -122,9 +140,40 @@ impl Version {
         ensures cost { NoneDecides (take n (joined self.now)) key.now → (nodes : ℕ) → LayersHaveNodes self.now nodes
             → steps.new ≤ steps.old + nodes * length key.now }
     {
+        if let Some(place) = self.own_from(n, key) {
+            return Some(place);
+        }
         let asked = Asked::of(key);
         first_in(&self.layers, n, &asked, steps)
     }
+
+    /// The place of an entry of this key, where that is n or later and is known to be the first that decides the key.
+    fn own_from(&self, n: u32, key: &Key) -> Option<u32>
+        ensures { IfSome result (IsFirstAtFrom n (joined self.now) key.now) }
+    {
+        match own_place(&self.layers, &self.firsts, key) {
+            Some(place) if place >= n => Some(place),
+            _ => None,
+        }
+    }
+
+    /// Whether no entry decides the key.
+    fn is_undecided(&self, key: &Key) -> bool
+        ensures { IsTrue result ↔ NoneDecides (joined self.now) key.now }
+    {
+        first_by::<Brand>(self, key, Blank::new(1)).is_none()
+    }
+}
+
+/// The least place of an entry that decides the key, by a ledger for the steps that nobody reads.
+fn first_by<L: Ledger>(version: &Version, key: &Key, blank: Blank) -> Option<u32>
+    requires name { blank.name ≡ L.name }
+    requires parts { blank.parts ≡ L.parts }
+    requires some { 0 < blank.parts }
+    ensures { IsFirstDeciding (joined version.now) key.now result }
+{
+    let mut steps: Steps<L> = Steps::new(blank);
+    version.first(key, &mut steps)
 }
 
 /// How many layers there are.
@@ -173,22 +222,21 @@ fn first_in<L: Ledger>(
     None
 }
 
-/// The layers with the entry at the end. Those that are less than twice as long as what is behind them become one new
-/// layer with it.
+/// The layers with the entry at the end. Those behind the kept ones become one with it.
 fn with_entry(
     alloc: Global,
     layers: &[Shared<Layer>],
+    kept: usize,
     entry: Shared<Entry>,
 ) -> Result<Vec<Shared<Layer>>, NoMemory>
-    requires halving { AreHalving layers.now }
+    requires kept { kept ≤ length layers.now }
     requires room { length (joined layers.now) < max_entries }
-    ensures joined { IfOk result (λ more. joined more.items ≡ joined layers.now ++ entry ∷ []) }
-    ensures halving { IfOk result (λ more. AreHalving more.items) }
+    ensures { IfOk result (λ more. more.items
+        ≡ take kept layers.now ++ (joined (drop kept layers.now) ++ entry ∷ []) ∷ []) }
 {
-    let (front, behind) = layers.split_at(kept_layers(layers));
+    let (front, behind) = layers.split_at(kept);
     let last = joined_with(alloc, behind, entry)?;
-    let mut more = share_all(alloc, front)?;
-    more.push(Shared::new(alloc, last)?)?;
+    let more = with_last(alloc, front, last)?;
     Ok(more)
 }
 
@@ -211,17 +259,6 @@ fn kept_layers(layers: &[Shared<Layer>]) -> usize
         front = earlier;
     }
     front.len()
-}
-
-/// One owner more of each layer.
-fn share_all(alloc: Global, layers: &[Shared<Layer>]) -> Result<Vec<Shared<Layer>>, NoMemory>
-    ensures { IfOk result (λ shared. shared.items ≡ layers.now) }
-{
-    let mut shared = Vec::new(alloc);
-    for layer in layers {
-        shared.push(layer.share()?)?;
-    }
-    Ok(shared)
 }
 
 /// One layer of the entries of these layers, and the entry behind them.
@@ -247,16 +284,6 @@ fn entries_of(alloc: Global, layers: &[Shared<Layer>]) -> Result<Vec<Shared<Entr
         share_into(&mut entries, layer.get().entries())?;
     }
     Ok(entries)
-}
-
-/// Adds one owner more of each entry.
-fn share_into(out: &mut Vec<Shared<Entry>>, entries: &[Shared<Entry>]) -> Result<(), NoMemory>
-    ensures { OnOk result (out.new.items ≡ out.old.items ++ entries.now) }
-{
-    for entry in entries {
-        out.push(entry.share()?)?;
-    }
-    Ok(())
 }
 
 /// The entry at this place of the layers.

@@ -56,6 +56,13 @@ impl UnsatTrie {
         self.tree.nodes()
     }
 
+    /// The least number under which the very key is held, or none. It takes no steps and no memory.
+    pub fn find(&self, key: &Key) -> Option<u32>
+        ensures { IsLeastOf (λ held. held ≡ key.now) self.now result }
+    {
+        self.tree.find(key)
+    }
+
     /// The least number of a key held that the key covers: each atom of the one held is implied by some atom of the key.
     /// None where it covers none. It takes at most one step for each node and each atom of the key, and no memory.
     pub fn first<L: Ledger>(&self, key: &Key, steps: &mut Steps<L>) -> Option<u32>

@@ -1,22 +1,13 @@
-use Rattle.std.proofs.Common.{◌≡◌, false, ◌+ℤ◌, FitsSigned, to_z, of_z, sym, ◌∙◌, rules}
-use Rattle.std.specs.Int.{w128}
+use Rattle.std.proofs.Common.{sym, ◌∙◌, ap}
 use Rattle.refutation.specs.Box.{PlainBox}
-use Rattle.combos.proofs.PairLemmas.{without_second, too_little}
+use Rattle.combos.specs.AtCorners.{is_positive}
+use Rattle.combos.proofs.PairLemmas.{too_little}
 use Rattle.combos.proofs.pair.pair_closes.Goals as goal
 
-pub returns-in-None : goal.returns-in-None
-returns-in-None c =
+pub returns-else-is_positive : goal.returns-else-is_positive
+returns-else-is_positive c =
     let box : PlainBox = record { bounds = c.args.bounds.now; sides = c.args.sides.now } in
-    sym (without_second c.args.key.now box c.args.first c.args.second c.combinations_are_positive.ensures
-    c.keeps_limits.ensures c.keeps_limits-2.ensures c.requires.full
-    (sym c.corner_value.ensures.value ∙ c.in-None.is))
-
-pub returns-else-value-other-gt0 : goal.returns-else-value-other-gt0
-returns-else-value-other-gt0 c =
-    let box : PlainBox = record { bounds = c.args.bounds.now; sides = c.args.sides.now } in
-    let fits : FitsSigned w128 c.in-Some.other = search rules in
-    let sum = to_z w128 (of_z w128 (to_z w128 (of_z w128 c.args.value) +ℤ to_z w128 (of_z w128 c.in-Some.other))) in
-    let exact : sum ≡ c.args.value +ℤ c.in-Some.other = search rules in
-    sym (too_little c.args.key.now box false c.args.first c.args.second c.args.value c.in-Some.other sum
+    sym (too_little c.args.key.now box c.args.first.term c.args.second.term c.args.first.worth c.args.second.worth
     c.combinations_are_positive.ensures c.keeps_limits.ensures c.keeps_limits-2.ensures c.requires.full
-    c.requires.value (sym c.corner_value.ensures.value ∙ c.in-Some.is) exact c.if-value-other-gt0.false)
+    c.requires.first.worth c.requires.second.worth
+    (sym (ap is_positive c.plus.ensures) ∙ sym c.is_positive.ensures ∙ c.if-is_positive.false))

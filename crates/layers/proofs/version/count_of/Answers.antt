@@ -1,6 +1,4 @@
-use Rattle.std.proofs.Common.{arith, subst, sym, ℕ}
-use Rattle.layers.specs.Layers.{joined}
-use Rattle.layers.specs.Halving.{IsWithinDigits}
+use Rattle.std.proofs.Common.{arith}
 use Rattle.layers.proofs.HalvingLemmas.{count_fits, few_layers}
 use Rattle.layers.proofs.version.count_of.Goals as goal
 

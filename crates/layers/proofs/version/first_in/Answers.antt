@@ -1,4 +1,4 @@
-use Rattle.std.proofs.Common.{◌≡◌, ◌+◌, ◌∙◌, ℕ, ap, arith, length, refl, subst, sym}
+use Rattle.std.proofs.Common.{◌+◌, ℕ, arith, length, refl, subst, sym}
 use Rattle.layers.specs.Layers.{joined, NoneBetween}
 use Rattle.layers.proofs.JoinLemmas.{both_short, longer_front, same_length}
 use Rattle.layers.proofs.NodeLemmas.{none_before, spent_none, spent_more, spent_in_all}

@@ -1,4 +1,4 @@
-use Rattle.std.proofs.Common.{◌≡◌, ℕ, ◌+◌, ◌*◌, ◌≤◌, length, take}
+use Rattle.std.proofs.Common.{◌≡◌, ℕ, length, take}
 use Rattle.cert_check.specs.Decides.{NoneDecides}
 use Rattle.layers.specs.Layers.{joined, NoneBetween}
 use Rattle.layers.specs.Tries.{LayersHaveNodes}

@@ -1,4 +1,4 @@
-use Rattle.std.proofs.Common.{◌≡◌, arith, length}
+use Rattle.std.proofs.Common.{arith}
 use Rattle.layers.proofs.NodeLemmas.{nodes_more, nodes_all}
 use Rattle.layers.proofs.HalvingLemmas.{count_fits}
 use Rattle.layers.proofs.version.nodes_of.Goals as goal

@@ -1,4 +1,4 @@
-use Rattle.std.proofs.Common.{◌≡◌, ℕ, ◌+◌, ◌*◌, ◌^◌, ◌≤◌, take, drop}
+use Rattle.std.proofs.Common.{ℕ, ◌+◌, ◌*◌, ◌^◌, ◌≤◌, drop}
 use Rattle.layers.specs.Tries.{LayersHaveNodes}
 use Rattle.layers.proofs.version.nodes_of.Given as goal
 

@@ -10,7 +10,7 @@ few : (c : goal.After-all) → length c.args.asked.now ≤ 384
 few c = omega (arith, c.count.ensures.count, c.count.ensures.few)
 
 pub returns-clause-left : goal.returns-clause-left
-returns-clause-left c = all_left c.args.asked.now c.all.result c.all_needs.result (full c) (few c) c.all_needs.ensures
+returns-clause-left c = all_left c.args.asked.now c.all.result c.all_needs.result (full c) (few c) c.all_needs.ensures.least
 
 pub returns-clause-all : goal.returns-clause-all
-returns-clause-all c = all_atoms c.args.asked.now c.all.result c.all_needs.result (full c) (few c) c.all_needs.ensures
+returns-clause-all c = all_atoms c.args.asked.now c.all.result c.all_needs.result (full c) (few c) c.all_needs.ensures.least

@@ -6,7 +6,8 @@ use Rattle.key_tree.specs.Places.{PlainPlace}
 use Rattle.key_tree.specs.Tree.{PlainTree, Pair, pairs_of, no_branch}
 use Rattle.key_tree.specs.Growth.{IsFront, MayWiden, AreMasked}
 use Rattle.key_tree.proofs.ChainLemmas.{slice_to_end}
-use Rattle.key_tree.proofs.GrowthLemmas.{grown_tree, pairs_new}
+use Rattle.key_tree.proofs.GrownWays.{pairs_new}
+use Rattle.key_tree.proofs.GrowthLemmas.{grown_tree}
 use Rattle.key_tree.proofs.JoinLemmas.{Joined, joined_may_widen, joined_grew}
 use Rattle.key_tree.proofs.tree.KeyTree.grow.Goals as goal
 
@@ -84,7 +85,7 @@ invariant_of-self-2 c =
     subst (λ (bs : List Branch). AreMasked bs wide) c.deref.ensures.value c.widen_to.ensures.masked in
     let grew = joined_grew tree c.args.key.now _ c.args.front _ c.args.number _ _ _ _ c.in_ok-chain.chain.held _ _ joined
     wide c.join_chain.new.held.items c.widen_to.ensures.same masked joins.held in
-    grown_tree tree _ c.args.key.now _ _ c.args.front.place c.args.front.at c.in_ok-chain.chain.held.place c.args.number grew
+    grown_tree grew
 
 pub returns-clause-held : goal.returns-clause-held
 returns-clause-held c =
@@ -119,5 +120,5 @@ returns-clause-held c =
     let grew = joined_grew tree c.args.key.now _ c.args.front _ c.args.number _ _ _ _ c.in_ok-chain.chain.held _ _ joined
     wide c.join_chain.new.held.items c.widen_to.ensures.same masked joins.held in
     let pair : Pair = record { key = c.args.key.now; number = c.args.number } in
-    pairs_new tree _ c.args.key.now _ _ c.args.front.place c.args.front.at c.in_ok-chain.chain.held.place c.args.number grew
+    pairs_new grew
     ∙ ap (λ (t : PlainTree). pairs_of t ++ pair ∷ []) c.self.view_is

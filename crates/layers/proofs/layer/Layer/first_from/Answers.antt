@@ -1,5 +1,4 @@
-use Rattle.std.proofs.Common.{◌≡◌, subst}
-use Rattle.layers.proofs.LeastLemmas.{first_of_all, not_before}
+use Rattle.layers.proofs.FirstLemmas.{first_of_all}
 use Rattle.layers.proofs.layer.Layer.first_from.Goals as goal
 
 pub returns-clause-first : goal.returns-clause-first
