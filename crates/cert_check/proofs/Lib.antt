@@ -6,6 +6,7 @@ mod FlightLemmas
 mod LogLemmas
 mod RunLemmas
 mod SettleLemmas
+mod ShrinkLemmas
 mod StandingLemmas
 mod Worked
 mod WrittenLemmas

@@ -1,5 +1,6 @@
 pub mod Entries
 pub mod Decides
+pub mod Shrunk
 pub mod Refusals
 pub mod Machine
 pub mod Logs

@@ -4,6 +4,7 @@ ghost use Rattle.cert_check.specs.Laws.{DecidingEntriesSettle, EntriesDecideThei
 ghost use Rattle.cert_check.specs.Laws.{LogsDetermineEntries, EventsDetermineLogs, PlacesStay, LegalLogsTell};
 ghost use Rattle.cert_check.specs.Laws.{LogsGoOn, FrontsAreLegal, EntriesStay, FlightsBeginRightly, FlightsStayApart};
 ghost use Rattle.cert_check.specs.Laws.{RepliesGoOnStanding, RepliesSettle};
+ghost use Rattle.cert_check.specs.Shrunk.{ShrunkEntriesDecide};
 ghost use Rattle.cert_check.specs.Runs.{AskingKeepsReplies, AsksJoin, FlightsAreCounted, WritesAreKept};
 
 use atom_implies::{covered_keys_hold, table_is_right};
@@ -22,6 +23,11 @@ pub fn deciding_entries_settle()
 /// An entry decides its own key.
 pub fn entries_decide_their_keys()
     ensures { EntriesDecideTheirKeys }
+{}
+
+/// The entry of a core of a key decides the key.
+pub fn shrunk_entries_decide()
+    ensures { ShrunkEntriesDecide }
 {}
 
 /// Whether an entry decides a key can be told, so each list of entries has, for each key, a first entry that decides

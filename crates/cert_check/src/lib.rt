@@ -2,6 +2,7 @@
 #![tactic(auto)]
 
 mod check;
+mod cores;
 mod deciding;
 mod entry;
 mod event;
@@ -15,6 +16,7 @@ mod shared;
 mod wrote;
 
 pub use check::{check_sat, check_unsat};
+pub use cores::shrink;
 pub use deciding::decides;
 pub use entry::{Entry, SatEntry, UnsatEntry};
 pub use event::{Ending, Event};
@@ -24,7 +26,7 @@ pub use laws::{
     entries_stay, events_determine_logs, first_places_exist, flights_are_counted,
     flights_begin_rightly, flights_stay_apart, fronts_are_legal, legal_logs_tell,
     logs_determine_entries, logs_go_on, places_stay, replies_go_on_standing, replies_settle,
-    writes_are_kept,
+    shrunk_entries_decide, writes_are_kept,
 };
 pub use oracle::SliceOracle;
 pub use refused::{NotUnsat, Refused};

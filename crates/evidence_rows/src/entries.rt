@@ -1,10 +1,10 @@
 //! Entries that are made and refused, and which keys they decide.
 ghost use Rattle.std.specs.Prelude.{◌≡◌, ◌<◌};
 
-use crate::fixtures::{DIFFERENCE, SUM, VARIABLE, atom, key_of, on_atom};
+use crate::fixtures::{key_of, on_atom};
 use atom_implies::Steps;
 use cert_check::{Entry, NotUnsat, Refused, check_sat, check_unsat, decides};
-use lin_model::{FormTerm, Key, Op, Point};
+use lin_model::{Key, Point};
 use refutation::{Node, Tree};
 use std::alloc::Global;
 use std::marker::Brand;
@@ -12,17 +12,9 @@ use std::process::Abort;
 use std::sync::ledger::{Blank, Ledger};
 use std::test::Fail;
 
-/// `form <= most` and `form >= least`.
-fn between(alloc: Global, form: &[FormTerm], most: i64, least: i64) -> Result<Key, Fail> {
-    let mut atoms = Vec::new(alloc);
-    atoms.push(atom(alloc, form, Op::Le, most)?)?;
-    atoms.push(atom(alloc, form, Op::Ge, least)?)?;
-    key_of(atoms)
-}
-
 /// The entry of `v0 <= 3` and `v0 >= 3` with this value, or why it is refused.
 fn at_value(alloc: Global, value: i64) -> Result<Result<Entry, Refused>, Fail> {
-    let key = between(alloc, &VARIABLE, 3, 3)?;
+    let key = key_of(alloc, "v0 <= 3;v0 >= 3")?;
     let mut values = Vec::new(alloc);
     values.push(value)?;
     let Ok(point) = Point::of(values) else {
@@ -44,7 +36,7 @@ fn a_point_that_fails_is_refused_by_its_first_atom(rt: HostRuntime) -> Result<()
 
 /// The entry of `v0 - v1 <= -1` and `v0 - v1 >= 1` with these nodes and the two atoms as terms, or why it is refused.
 fn crossed(alloc: Global, nodes: &[Node]) -> Result<Result<Entry, NotUnsat>, Fail> {
-    let key = between(alloc, &DIFFERENCE, -1, 1)?;
+    let key = key_of(alloc, "v0 - v1 <= -1;v0 - v1 >= 1")?;
     let mut terms = Vec::new(alloc);
     terms.push(on_atom(0, 1))?;
     terms.push(on_atom(1, 1))?;
@@ -98,9 +90,9 @@ fn try_deciding<L: Ledger>(rt: &(impl Abort + AllocGlobal), blank: Blank) -> Res
 /// `v0 <= 3` implies `v0 <= 100` and not `v0 <= 2`, and `v0 >= 3` implies `v0 >= 2`.
 fn try_sat<L: Ledger>(rt: &(impl Abort + AllocGlobal), steps: &mut Steps<L>) -> Result<(), Fail> {
     let entry = entry_of(at_value(rt.alloc(), 3)?.ok())?;
-    let wide = between(rt.alloc(), &VARIABLE, 100, 2)?;
+    let wide = key_of(rt.alloc(), "v0 <= 100;v0 >= 2")?;
     expect(rt, &entry, wide, true, steps);
-    let narrow = between(rt.alloc(), &VARIABLE, 2, 1)?;
+    let narrow = key_of(rt.alloc(), "v0 <= 2;v0 >= 1")?;
     expect(rt, &entry, narrow, false, steps);
     Ok(())
 }
@@ -108,9 +100,9 @@ fn try_sat<L: Ledger>(rt: &(impl Abort + AllocGlobal), steps: &mut Steps<L>) -> 
 /// The core is decided by tighter atoms, whatever stands beside them, and not by one of them alone.
 fn try_core<L: Ledger>(rt: &(impl Abort + AllocGlobal), steps: &mut Steps<L>) -> Result<(), Fail> {
     let core = entry_of(crossed(rt.alloc(), &[Node::Combo { count: 2 }])?.ok())?;
-    let beside = tighter(rt.alloc())?;
+    let beside = key_of(rt.alloc(), "v0 - v1 <= -7;v0 - v1 >= 5;v0 + v1 <= 3")?;
     expect(rt, &core, beside, true, steps);
-    let alone = upper(rt.alloc())?;
+    let alone = key_of(rt.alloc(), "v0 - v1 <= -1")?;
     expect(rt, &core, alone, false, steps);
     Ok(())
 }
@@ -120,22 +112,6 @@ fn entry_of(entry: Option<Entry>) -> Result<Entry, Fail> {
         Some(entry) => Ok(entry),
         None => Err(Fail::from("an entry")),
     }
-}
-
-/// Atoms tighter than those of the core, and one beside them.
-fn tighter(alloc: Global) -> Result<Key, Fail> {
-    let mut atoms = Vec::new(alloc);
-    atoms.push(atom(alloc, &DIFFERENCE, Op::Le, -7)?)?;
-    atoms.push(atom(alloc, &DIFFERENCE, Op::Ge, 5)?)?;
-    atoms.push(atom(alloc, &SUM, Op::Le, 3)?)?;
-    key_of(atoms)
-}
-
-/// One atom of the core.
-fn upper(alloc: Global) -> Result<Key, Fail> {
-    let mut atoms = Vec::new(alloc);
-    atoms.push(atom(alloc, &DIFFERENCE, Op::Le, -1)?)?;
-    key_of(atoms)
 }
 
 /// Expects that the entry decides the key, or that it doesn't.

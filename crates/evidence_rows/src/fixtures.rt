@@ -1,29 +1,30 @@
-//! Atoms and keys that the tests of evidence share.
-use lin_model::{Form, FormTerm, Key, KeyAtom, Op};
+//! Keys and the terms of leaves that the tests of evidence share.
+use lin_model::{Key, KeyAtom};
+use lin_text::read_atom;
 use refutation::{LeafTerm, On};
 use std::alloc::Global;
 use std::test::Fail;
 
-/// `v0 - v1`
-pub const DIFFERENCE: [FormTerm; 2] = [FormTerm { var: 0, coef: 1 }, FormTerm { var: 1, coef: -1 }];
-
-/// `v0 + v1`
-pub const SUM: [FormTerm; 2] = [FormTerm { var: 0, coef: 1 }, FormTerm { var: 1, coef: 1 }];
-
-/// `v0`
-pub const VARIABLE: [FormTerm; 1] = [FormTerm { var: 0, coef: 1 }];
-
-/// The atom of these parts, which are canonical.
-pub fn atom(alloc: Global, terms: &[FormTerm], op: Op, constant: i64) -> Result<KeyAtom, Fail> {
-    let form = Form::new(terms.to_vec(alloc)?);
-    Ok(KeyAtom::new(form, op, constant).ok_or("not canonical")?)
-}
-
-/// The key of these atoms, which are in order.
-pub fn key_of(atoms: Vec<KeyAtom>) -> Result<Key, Fail> {
-    match Key::of(atoms) {
+/// The key of these canonical atoms, which stand in order with a semicolon between each two.
+pub fn key_of(alloc: Global, text: &str) -> Result<Key, Fail> {
+    match Key::of(atoms_of(alloc, text)?) {
         Ok(key) => Ok(key),
         Err(_) => Err(Fail::from("out of order")),
+    }
+}
+
+fn atoms_of(alloc: Global, text: &str) -> Result<Vec<KeyAtom>, Fail> {
+    let mut atoms = Vec::new(alloc);
+    for atom in text.split(';') {
+        atoms.push(atom_of(alloc, atom)?)?;
+    }
+    Ok(atoms)
+}
+
+fn atom_of(alloc: Global, text: &str) -> Result<KeyAtom, Fail> {
+    match read_atom(alloc, text.as_bytes()) {
+        Ok(atom) => Ok(atom),
+        Err(_) => Err(Fail::from("no canonical atom")),
     }
 }
 

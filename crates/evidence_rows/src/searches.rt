@@ -2,29 +2,19 @@
 ghost use Rattle.std.specs.Prelude.{IfOk};
 ghost use Rattle.refutation.specs.Boxed.{IsBoxed};
 
-use crate::fixtures::{DIFFERENCE, atom, key_of, on_atom, on_side};
+use crate::fixtures::{key_of, on_atom, on_side};
 use box_solver::{Found, TighterSide, TreeRegion, cut, is_boxed, solve, step};
 use combos::find_combo;
-use lin_model::{FormTerm, Key, KeyAtom, Op};
+use lin_model::Key;
 use refutation::{Bounds, Node, refutes};
 use std::alloc::Global;
 use std::test::Fail;
 
-/// `v0`
-const FIRST: [FormTerm; 1] = [FormTerm { var: 0, coef: 1 }];
-
-/// `v1`
-const SECOND: [FormTerm; 1] = [FormTerm { var: 1, coef: 1 }];
-
-const LEAST: i64 = -2147483648;
-
-const GREATEST: i64 = 2147483647;
-
-/// The key of these atoms, which are in order and hold each variable from both sides.
-fn boxed(atoms: Vec<KeyAtom>) -> Result<Key, Fail>
+/// The key of these atoms, which hold each variable from both sides.
+fn boxed(alloc: Global, text: &str) -> Result<Key, Fail>
     ensures { IfOk result (λ key. IsBoxed key) }
 {
-    let key = key_of(atoms)?;
+    let key = key_of(alloc, text)?;
     if is_boxed(&key) {
         Ok(key)
     } else {
@@ -32,26 +22,30 @@ fn boxed(atoms: Vec<KeyAtom>) -> Result<Key, Fail>
     }
 }
 
-/// `v0 - v1 <= -1`, and where both are asked `v0 - v1 >= 1`, over `low` to `high`.
-fn apart(alloc: Global, low: i64, high: i64, both: bool) -> Result<Key, Fail>
-    ensures { IfOk result (λ key. IsBoxed key) }
-{
-    let mut atoms = Vec::new(alloc);
-    atoms.push(atom(alloc, &FIRST, Op::Le, high)?)?;
-    atoms.push(atom(alloc, &FIRST, Op::Ge, low)?)?;
-    atoms.push(atom(alloc, &DIFFERENCE, Op::Le, -1)?)?;
-    if both {
-        atoms.push(atom(alloc, &DIFFERENCE, Op::Ge, 1)?)?;
-    }
-    atoms.push(atom(alloc, &SECOND, Op::Le, high)?)?;
-    atoms.push(atom(alloc, &SECOND, Op::Ge, low)?)?;
-    boxed(atoms)
-}
+/// Two that shut each other out, over the widest bounds.
+const APART: &str = "v0 <= 2147483647;v0 >= -2147483648;v0 - v1 <= -1;v0 - v1 >= 1;\
+v1 <= 2147483647;v1 >= -2147483648";
+
+/// `v0` is below `v1`, over 0 to 1.
+const BELOW: &str = "v0 <= 1;v0 >= 0;v0 - v1 <= -1;v1 <= 1;v1 >= 0";
+
+/// `v0` and `v1` are to be equal, and not equal.
+const EQUAL_APART: &str =
+    "v0 <= 2147483647;v0 >= -2147483648;v0 - v1 <= 0;v0 - v1 >= 0;v0 - v1 != 0;\
+v1 <= 2147483647;v1 >= -2147483648";
+
+/// `v0 < v1`, `v1 < v2` and `v2 < v0`.
+const CHAIN: &str = "v0 <= 2147483647;v0 >= -2147483648;v0 - v1 <= -1;v0 - v2 >= 1;\
+v1 <= 2147483647;v1 >= -2147483648;v1 - v2 <= -1;v2 <= 2147483647;v2 >= -2147483648";
+
+/// `v0` would have to be even and odd.
+const EVEN_AND_ODD: &str = "v0 <= 2147483647;v0 >= -2147483648;v0 - 2*v1 = 0;v0 - 2*v2 = 1;\
+v1 <= 2147483647;v1 >= -2147483648;v2 <= 2147483647;v2 >= -2147483648";
 
 #[test]
 fn the_sum_of_two_closes_wide_bounds(rt: HostRuntime) -> Result<(), Fail> {
     let alloc = rt.alloc();
-    let key = apart(alloc, LEAST, GREATEST, true)?;
+    let key = boxed(alloc, APART)?;
     let mut region = TreeRegion::reserve(alloc, 1)?;
     let found = solve(&key, 1, &mut region);
     assert!(rt; matches!(&found, Found::Refuted));
@@ -68,15 +62,7 @@ fn the_sum_of_two_closes_wide_bounds(rt: HostRuntime) -> Result<(), Fail> {
 #[test]
 fn a_split_by_an_atom_leaves_two_sums(rt: HostRuntime) -> Result<(), Fail> {
     let alloc = rt.alloc();
-    let mut atoms = Vec::new(alloc);
-    atoms.push(atom(alloc, &FIRST, Op::Le, GREATEST)?)?;
-    atoms.push(atom(alloc, &FIRST, Op::Ge, LEAST)?)?;
-    for op in [Op::Le, Op::Ge, Op::Ne] {
-        atoms.push(atom(alloc, &DIFFERENCE, op, 0)?)?;
-    }
-    atoms.push(atom(alloc, &SECOND, Op::Le, GREATEST)?)?;
-    atoms.push(atom(alloc, &SECOND, Op::Ge, LEAST)?)?;
-    let key = boxed(atoms)?;
+    let key = boxed(alloc, EQUAL_APART)?;
     let mut region = TreeRegion::reserve(alloc, 1)?;
     let found = solve(&key, 1, &mut region);
     assert!(rt; matches!(&found, Found::Refuted));
@@ -95,16 +81,7 @@ fn a_split_by_an_atom_leaves_two_sums(rt: HostRuntime) -> Result<(), Fail> {
 #[test]
 fn a_chain_is_closed_by_elimination(rt: HostRuntime) -> Result<(), Fail> {
     let alloc = rt.alloc();
-    let first_third = [FormTerm { var: 0, coef: 1 }, FormTerm { var: 2, coef: -1 }];
-    let second_third = [FormTerm { var: 1, coef: 1 }, FormTerm { var: 2, coef: -1 }];
-    let mut atoms = Vec::new(alloc);
-    push_bounds(alloc, &mut atoms, 0)?;
-    atoms.push(atom(alloc, &DIFFERENCE, Op::Le, -1)?)?;
-    atoms.push(atom(alloc, &first_third, Op::Ge, 1)?)?;
-    push_bounds(alloc, &mut atoms, 1)?;
-    atoms.push(atom(alloc, &second_third, Op::Le, -1)?)?;
-    push_bounds(alloc, &mut atoms, 2)?;
-    let key = boxed(atoms)?;
+    let key = boxed(alloc, CHAIN)?;
     let mut region = TreeRegion::reserve(alloc, 1)?;
     let found = solve(&key, 1, &mut region);
     assert!(rt; matches!(&found, Found::Refuted));
@@ -116,19 +93,11 @@ fn a_chain_is_closed_by_elimination(rt: HostRuntime) -> Result<(), Fail> {
     Ok(())
 }
 
-/// Adds both bounds of a variable, as wide as they may be.
-fn push_bounds(alloc: Global, atoms: &mut Vec<KeyAtom>, var: u8) -> Result<(), Fail> {
-    let form = [FormTerm { var, coef: 1 }];
-    atoms.push(atom(alloc, &form, Op::Le, GREATEST)?)?;
-    atoms.push(atom(alloc, &form, Op::Ge, LEAST)?)?;
-    Ok(())
-}
-
 /// The atom raises the lower side of `v1` to 1, and the corner of what is left is a model.
 #[test]
 fn the_first_corner_that_satisfies_the_key_is_the_model(rt: HostRuntime) -> Result<(), Fail> {
     let alloc = rt.alloc();
-    let key = apart(alloc, 0, 1, false)?;
+    let key = boxed(alloc, BELOW)?;
     let mut region = TreeRegion::reserve(alloc, 4)?;
     let mark = region.mark();
     match solve(&key, 4, &mut region) {
@@ -147,11 +116,7 @@ fn the_first_corner_that_satisfies_the_key_is_the_model(rt: HostRuntime) -> Resu
 #[test]
 fn one_split_leaves_a_box_open(rt: HostRuntime) -> Result<(), Fail> {
     let alloc = rt.alloc();
-    let mut atoms = Vec::new(alloc);
-    atoms.push(atom(alloc, &FIRST, Op::Le, 9)?)?;
-    atoms.push(atom(alloc, &FIRST, Op::Ge, 0)?)?;
-    atoms.push(atom(alloc, &FIRST, Op::Ne, 0)?)?;
-    let key = boxed(atoms)?;
+    let key = boxed(alloc, "v0 <= 9;v0 >= 0;v0 != 0")?;
     let mut region = TreeRegion::reserve(alloc, 1)?;
     let found = solve(&key, 1, &mut region);
     assert!(rt; matches!(&found, Found::Spent));
@@ -169,15 +134,7 @@ fn one_split_leaves_a_box_open(rt: HostRuntime) -> Result<(), Fail> {
 #[test]
 fn a_large_budget_is_spent(rt: HostRuntime) -> Result<(), Fail> {
     let alloc = rt.alloc();
-    let even = [FormTerm { var: 0, coef: 1 }, FormTerm { var: 1, coef: -2 }];
-    let odd = [FormTerm { var: 0, coef: 1 }, FormTerm { var: 2, coef: -2 }];
-    let mut atoms = Vec::new(alloc);
-    push_bounds(alloc, &mut atoms, 0)?;
-    atoms.push(atom(alloc, &even, Op::Eq, 0)?)?;
-    atoms.push(atom(alloc, &odd, Op::Eq, 1)?)?;
-    push_bounds(alloc, &mut atoms, 1)?;
-    push_bounds(alloc, &mut atoms, 2)?;
-    let key = boxed(atoms)?;
+    let key = boxed(alloc, EVEN_AND_ODD)?;
     let mut region = TreeRegion::reserve(alloc, 100_000)?;
     let found = solve(&key, 100_000, &mut region);
     assert!(rt; matches!(&found, Found::Spent));
@@ -206,7 +163,7 @@ fn a_region_has_the_room_that_was_reserved(rt: HostRuntime) -> Result<(), Fail> 
 /// The parts of the search by themselves, on the box of `v0 - v1 <= -1` over 0 to 1.
 #[test]
 fn an_open_box_is_split_by_its_cut(rt: HostRuntime) -> Result<(), Fail> {
-    let key = apart(rt.alloc(), 0, 1, false)?;
+    let key = boxed(rt.alloc(), BELOW)?;
     let bounds = Bounds::of(&key);
     if find_combo(&key, &bounds, &[]).is_some() {
         return Err(Fail::from("closed"));

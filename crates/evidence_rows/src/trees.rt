@@ -1,33 +1,22 @@
 //! Worked trees and leaves, by hand.
-use crate::fixtures::{DIFFERENCE, atom, key_of, on_atom, on_side};
+use crate::fixtures::{key_of, on_atom, on_side};
 use arrayvec::ArrayVec;
-use lin_model::{Key, Op};
+use lin_model::Key;
 use outside::NoMemory;
-use refutation::{Bounds, Leaf, LeafTerm, Node, Side, TreeFault, closes, refutes};
+use refutation::{Bounds, Leaf, LeafTerm, Node, Side, TreeFault, closes, closes_chosen, refutes};
 use std::alloc::Global;
 use std::process::Abort;
 use std::test::Fail;
 
-/// `v0 - v1 <= low` and `v0 - v1 >= high`.
-fn crossed(alloc: Global, low: i64, high: i64) -> Result<Key, Fail> {
-    let mut atoms = Vec::new(alloc);
-    atoms.push(atom(alloc, &DIFFERENCE, Op::Le, low)?)?;
-    atoms.push(atom(alloc, &DIFFERENCE, Op::Ge, high)?)?;
-    key_of(atoms)
-}
+/// Two that shut each other out.
+const CROSSED: &str = "v0 - v1 <= -1;v0 - v1 >= 1";
 
-/// `v0 - v1 <= 0`, `v0 - v1 >= 0` and `v0 - v1 != 0`.
-fn pinned(alloc: Global) -> Result<Key, Fail> {
-    let mut atoms = Vec::new(alloc);
-    atoms.push(atom(alloc, &DIFFERENCE, Op::Le, 0)?)?;
-    atoms.push(atom(alloc, &DIFFERENCE, Op::Ge, 0)?)?;
-    atoms.push(atom(alloc, &DIFFERENCE, Op::Ne, 0)?)?;
-    key_of(atoms)
-}
+/// A difference that is to be 0, and not 0.
+const PINNED: &str = "v0 - v1 <= 0;v0 - v1 >= 0;v0 - v1 != 0";
 
 #[test]
 fn two_terms_refute(rt: HostRuntime) -> Result<(), Fail> {
-    let key = crossed(rt.alloc(), -1, 1)?;
+    let key = key_of(rt.alloc(), CROSSED)?;
     let combo = [Node::Combo { count: 2 }];
     let both = [on_atom(0, 1), on_atom(1, 1)];
     expect_tree(&rt, &key, &combo, &both, Ok(()));
@@ -44,7 +33,7 @@ fn two_terms_refute(rt: HostRuntime) -> Result<(), Fail> {
 
 #[test]
 fn a_split_by_an_atom_needs_its_sides(rt: HostRuntime) -> Result<(), Fail> {
-    let key = pinned(rt.alloc())?;
+    let key = key_of(rt.alloc(), PINNED)?;
     let nodes = [
         Node::NeSplit { atom: 2 },
         Node::Combo { count: 2 },
@@ -60,7 +49,7 @@ fn a_split_by_an_atom_needs_its_sides(rt: HostRuntime) -> Result<(), Fail> {
 #[test]
 fn a_leaf_closes_by_a_side(rt: HostRuntime) -> Result<(), Fail> {
     let alloc = rt.alloc();
-    let key = pinned(alloc)?;
+    let key = key_of(alloc, PINNED)?;
     let bounds = Bounds::of(&key);
     let sides = [Side {
         atom: 2,
@@ -75,12 +64,29 @@ fn a_leaf_closes_by_a_side(rt: HostRuntime) -> Result<(), Fail> {
     Ok(())
 }
 
+#[test]
+fn chosen_atoms_bound_the_box(rt: HostRuntime) -> Result<(), Fail> {
+    let key = key_of(rt.alloc(), "v0 <= 3;v0 >= 4")?;
+    assert!(rt; is_empty(rt.alloc(), &key, &[true, true])?);
+    assert!(rt; !is_empty(rt.alloc(), &key, &[true, false])?);
+    assert!(rt; !is_empty(rt.alloc(), &key, &[false, true])?);
+    Ok(())
+}
+
+/// Whether the box that the chosen atoms bound is empty.
+fn is_empty(alloc: Global, key: &Key, choice: &[bool]) -> Result<bool, Fail> {
+    if choice.len() != key.atoms().len() {
+        return Err(Fail::from("not one flag for each atom"));
+    }
+    Ok(closes_chosen(alloc, key, choice, &[Node::Empty], &[])?)
+}
+
 /// How often the tree of `a_tree_of_many_nodes_refutes` splits.
 const SPLITS: usize = 50_000;
 
 #[test]
 fn a_tree_of_many_nodes_refutes(rt: HostRuntime) -> Result<(), Fail> {
-    let key = crossed(rt.alloc(), -1, 1)?;
+    let key = key_of(rt.alloc(), CROSSED)?;
     let mut nodes = Vec::new(rt.alloc());
     let mut terms = Vec::new(rt.alloc());
     for cut in 0..SPLITS {
@@ -100,7 +106,7 @@ fn a_tree_of_many_nodes_refutes(rt: HostRuntime) -> Result<(), Fail> {
     Ok(())
 }
 
-/// Adds a leaf that closes any box by both atoms of `crossed`.
+/// Adds a leaf that closes any box by both atoms of `CROSSED`.
 fn push_leaf(nodes: &mut Vec<Node>, terms: &mut Vec<LeafTerm>) -> Result<(), NoMemory> {
     nodes.push(Node::Combo { count: 2 })?;
     terms.push(on_atom(0, 1))?;

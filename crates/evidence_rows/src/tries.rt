@@ -1,9 +1,9 @@
 //! Tries of satisfied keys and of cores, on keys whose answers were reckoned by hand.
 ghost use Rattle.std.specs.Prelude.{◌≡◌, ◌+◌, ◌<◌, ◌≤◌};
 
-use crate::fixtures::{DIFFERENCE, SUM, VARIABLE, atom, key_of};
+use crate::fixtures::key_of;
 use atom_implies::Steps;
-use lin_model::{FormTerm, Key, Op};
+use lin_model::Key;
 use sat_trie::SatTrie;
 use std::alloc::Global;
 use std::marker::Brand;
@@ -12,27 +12,12 @@ use std::sync::ledger::{Blank, Ledger};
 use std::test::Fail;
 use unsat_trie::UnsatTrie;
 
-/// `form <= most` and `form >= least`.
-fn between(alloc: Global, form: &[FormTerm], most: i64, least: i64) -> Result<Key, Fail> {
-    let mut atoms = Vec::new(alloc);
-    atoms.push(atom(alloc, form, Op::Le, most)?)?;
-    atoms.push(atom(alloc, form, Op::Ge, least)?)?;
-    key_of(atoms)
-}
-
-/// `form <= most`.
-fn at_most(alloc: Global, form: &[FormTerm], most: i64) -> Result<Key, Fail> {
-    let mut atoms = Vec::new(alloc);
-    atoms.push(atom(alloc, form, Op::Le, most)?)?;
-    key_of(atoms)
-}
-
 /// `v0 <= 3` and `v0 >= 3` under 0, `v0 <= 3` and `v0 >= 2` under 1: three nodes.
 fn satisfied(alloc: Global) -> Result<SatTrie, Fail> {
     let mut trie = SatTrie::new(alloc);
-    let equal = between(alloc, &VARIABLE, 3, 3)?;
+    let equal = key_of(alloc, "v0 <= 3;v0 >= 3")?;
     trie.insert(&equal, 0)?;
-    let wider = between(alloc, &VARIABLE, 3, 2)?;
+    let wider = key_of(alloc, "v0 <= 3;v0 >= 2")?;
     trie.insert(&wider, 1)?;
     Ok(trie)
 }
@@ -40,7 +25,7 @@ fn satisfied(alloc: Global) -> Result<SatTrie, Fail> {
 /// `v0 - v1 <= -1` and `v0 - v1 >= 1` under 0: two nodes.
 fn refuted(alloc: Global) -> Result<UnsatTrie, Fail> {
     let mut trie = UnsatTrie::new(alloc);
-    let crossed = between(alloc, &DIFFERENCE, -1, 1)?;
+    let crossed = key_of(alloc, "v0 - v1 <= -1;v0 - v1 >= 1")?;
     trie.insert(&crossed, 0)?;
     Ok(trie)
 }
@@ -92,9 +77,9 @@ fn try_satisfied<L: Ledger>(rt: &(impl Abort + AllocGlobal), blank: Blank) -> Re
 {
     let mut steps: Steps<L> = Steps::new(blank);
     let trie = satisfied(rt.alloc())?;
-    let wide = between(rt.alloc(), &VARIABLE, 5, 2)?;
+    let wide = key_of(rt.alloc(), "v0 <= 5;v0 >= 2")?;
     assert_eq!(rt; first_of_three(&trie, &wide, &mut steps)?, Some(0));
-    let narrow = at_most(rt.alloc(), &VARIABLE, 2)?;
+    let narrow = key_of(rt.alloc(), "v0 <= 2")?;
     assert_eq!(rt; first_of_three(&trie, &narrow, &mut steps)?, None);
     Ok(())
 }
@@ -107,18 +92,9 @@ fn try_refuted<L: Ledger>(rt: &(impl Abort + AllocGlobal), blank: Blank) -> Resu
 {
     let mut steps: Steps<L> = Steps::new(blank);
     let trie = refuted(rt.alloc())?;
-    let beside = tighter(rt.alloc())?;
+    let beside = key_of(rt.alloc(), "v0 - v1 <= -7;v0 - v1 >= 5;v0 + v1 <= 3")?;
     assert_eq!(rt; first_of_two(&trie, &beside, &mut steps)?, Some(0));
-    let alone = at_most(rt.alloc(), &DIFFERENCE, -1)?;
+    let alone = key_of(rt.alloc(), "v0 - v1 <= -1")?;
     assert_eq!(rt; first_of_two(&trie, &alone, &mut steps)?, None);
     Ok(())
-}
-
-/// Atoms tighter than those of the core, and one beside them.
-fn tighter(alloc: Global) -> Result<Key, Fail> {
-    let mut atoms = Vec::new(alloc);
-    atoms.push(atom(alloc, &DIFFERENCE, Op::Le, -7)?)?;
-    atoms.push(atom(alloc, &DIFFERENCE, Op::Ge, 5)?)?;
-    atoms.push(atom(alloc, &SUM, Op::Le, 3)?)?;
-    key_of(atoms)
 }

@@ -1,28 +1,21 @@
 //! Frozen lists of entries that grow one by one.
 ghost use Rattle.std.specs.Prelude.{◌≡◌, ◌<◌};
 
-use crate::fixtures::{VARIABLE, atom, key_of};
+use crate::fixtures::key_of;
 use atom_implies::Steps;
 use cert_check::{Entry, Shared, check_sat};
 use layers::Version;
-use lin_model::{Key, Op, Point};
+use lin_model::Point;
 use std::alloc::Global;
 use std::marker::Brand;
 use std::process::Abort;
 use std::sync::ledger::{Blank, Ledger};
 use std::test::Fail;
 
-/// `v0 <= most` and `v0 >= least`.
-fn between(alloc: Global, most: i64, least: i64) -> Result<Key, Fail> {
-    let mut atoms = Vec::new(alloc);
-    atoms.push(atom(alloc, &VARIABLE, Op::Le, most)?)?;
-    atoms.push(atom(alloc, &VARIABLE, Op::Ge, least)?)?;
-    key_of(atoms)
-}
-
 /// The entry of `v0 <= value` and `v0 >= value`.
 fn entry(alloc: Global, value: i64) -> Result<Shared<Entry>, Fail> {
-    let key = between(alloc, value, value)?;
+    let text = format!(in alloc; "v0 <= {value};v0 >= {value}")?;
+    let key = key_of(alloc, text.as_str())?;
     let mut values = Vec::new(alloc);
     values.push(value)?;
     let Ok(point) = Point::of(values) else {
@@ -68,11 +61,11 @@ fn try_first<L: Ledger>(
     requires some { 0 < blank.parts }
 {
     let mut steps: Steps<L> = Steps::new(blank);
-    let key = between(rt.alloc(), 9, 3)?;
+    let key = key_of(rt.alloc(), "v0 <= 9;v0 >= 3")?;
     assert_eq!(rt; version.first(&key, &mut steps), Some(3));
     assert_eq!(rt; version.first_from(4, &key, &mut steps), Some(4));
     assert_eq!(rt; version.first_from(6, &key, &mut steps), None);
-    let none = between(rt.alloc(), 9, 7)?;
+    let none = key_of(rt.alloc(), "v0 <= 9;v0 >= 7")?;
     assert_eq!(rt; version.first(&none, &mut steps), None);
     Ok(())
 }

@@ -75,47 +75,52 @@ pub with_upper-at : (b : PlainBounds) (w v : ℕ) (n : ℤ) → w < length b.upp
     → upper_of (with_upper b w n) v ≡ tighter_upper (upper_of b v) (cond (eqb w v) (Some n) None)
 with_upper-at b w v n lt = tightened_at tighter_upper tighter_upper-none b.upper w v (Some n) lt
 
--- ---- all atoms of a key, one after another
+-- ---- atoms, one after another
 
-pub lower_step : (atoms : List PlainKeyAtom) (i v : ℕ) (d : PlainKeyAtom) (before after whole : Option ℤ)
-    → i < length atoms → after ≡ tighter_lower before (lower_from (get_or atoms i d) v)
-    → tighter_lower before (lower_bound (drop i atoms) v) ≡ whole
-    → tighter_lower after (lower_bound (drop (i + 1) atoms) v) ≡ whole
-lower_step atoms i v d before after whole lt is h =
-    ap (λ (o : Option ℤ). tighter_lower o (lower_bound (drop (i + 1) atoms) v)) is
-    ∙ tighter_lower-tighter_lower before (lower_from (get_or atoms i d) v) (lower_bound (drop (i + 1) atoms) v)
-    ∙ ap (λ (xs : List PlainKeyAtom). tighter_lower before (lower_bound xs v)) (sym (drop_more atoms i d lt)) ∙ h
+-- the sides so far, tightened by those of the atoms left, are the sides of the whole
+pub record LeadTo (b : PlainBounds) (left whole : List PlainKeyAtom) : Type 0 where
+  pub lower : (v : ℕ) → v < 64 → tighter_lower (lower_of b v) (lower_bound left v) ≡ lower_bound whole v
+  pub upper : (v : ℕ) → v < 64 → tighter_upper (upper_of b v) (upper_bound left v) ≡ upper_bound whole v
 
-pub upper_step : (atoms : List PlainKeyAtom) (i v : ℕ) (d : PlainKeyAtom) (before after whole : Option ℤ)
-    → i < length atoms → after ≡ tighter_upper before (upper_from (get_or atoms i d) v)
-    → tighter_upper before (upper_bound (drop i atoms) v) ≡ whole
-    → tighter_upper after (upper_bound (drop (i + 1) atoms) v) ≡ whole
-upper_step atoms i v d before after whole lt is h =
-    ap (λ (o : Option ℤ). tighter_upper o (upper_bound (drop (i + 1) atoms) v)) is
-    ∙ tighter_upper-tighter_upper before (upper_from (get_or atoms i d) v) (upper_bound (drop (i + 1) atoms) v)
-    ∙ ap (λ (xs : List PlainKeyAtom). tighter_upper before (upper_bound xs v)) (sym (drop_more atoms i d lt)) ∙ h
-
-pub lower_end : (atoms : List PlainKeyAtom) (i v : ℕ) (side whole : Option ℤ) → length atoms ≤ i
-    → tighter_lower side (lower_bound (drop i atoms) v) ≡ whole → side ≡ whole
-lower_end atoms i v side whole le h =
-    sym (tighter_lower-none side) ∙ ap (λ (xs : List PlainKeyAtom). tighter_lower side (lower_bound xs v))
-    (sym (drop_of_length-le atoms le)) ∙ h
-
-pub upper_end : (atoms : List PlainKeyAtom) (i v : ℕ) (side whole : Option ℤ) → length atoms ≤ i
-    → tighter_upper side (upper_bound (drop i atoms) v) ≡ whole → side ≡ whole
-upper_end atoms i v side whole le h =
-    sym (tighter_upper-none side) ∙ ap (λ (xs : List PlainKeyAtom). tighter_upper side (upper_bound xs v))
-    (sym (drop_of_length-le atoms le)) ∙ h
-
--- bounds of 64 variables each are those of the key where they are so one by one
-pub key_bounds-from_each : (b : PlainBounds) (key : List PlainKeyAtom) → AreBounds b
-    → ((v : ℕ) → v < 64 → lower_of b v ≡ lower_bound key v) → ((v : ℕ) → v < 64 → upper_of b v ≡ upper_bound key v)
-    → b ≡ key_bounds key
-unfolding key_bounds variables
-key_bounds-from_each b key limits low high = λ i. record {
-  lower = fill_by_all (lower_bound key) b.lower 64 None limits.lower_len low i;
-  upper = fill_by_all (upper_bound key) b.upper 64 None limits.upper_len high i;
+-- no side so far
+pub lead-start : (b : PlainBounds) (left whole : List PlainKeyAtom) → left ≡ whole → ((v : ℕ) → lower_of b v ≡ None)
+    → ((v : ℕ) → upper_of b v ≡ None) → LeadTo b left whole
+lead-start b left whole all no_lower no_upper = record {
+  lower = λ v lt. ap (λ (o : Option ℤ). tighter_lower o (lower_bound left v)) (no_lower v)
+      ∙ ap (λ (xs : List PlainKeyAtom). lower_bound xs v) all;
+  upper = λ v lt. ap (λ (o : Option ℤ). tighter_upper o (upper_bound left v)) (no_upper v)
+      ∙ ap (λ (xs : List PlainKeyAtom). upper_bound xs v) all;
 }
+
+-- the first of the atoms left has tightened the sides
+pub lead-on : (b b' : PlainBounds) (a : PlainKeyAtom) (left left' whole : List PlainKeyAtom) → left ≡ a ∷ left'
+    → ((v : ℕ) → v < 64 → lower_of b' v ≡ tighter_lower (lower_of b v) (lower_from a v))
+    → ((v : ℕ) → v < 64 → upper_of b' v ≡ tighter_upper (upper_of b v) (upper_from a v))
+    → LeadTo b left whole → LeadTo b' left' whole
+lead-on b b' a left left' whole first low high h = record {
+  lower = λ v lt. ap (λ (o : Option ℤ). tighter_lower o (lower_bound left' v)) (low v lt)
+      ∙ tighter_lower-tighter_lower (lower_of b v) (lower_from a v) (lower_bound left' v)
+      ∙ ap (λ (xs : List PlainKeyAtom). tighter_lower (lower_of b v) (lower_bound xs v)) (sym first) ∙ h.lower v lt;
+  upper = λ v lt. ap (λ (o : Option ℤ). tighter_upper o (upper_bound left' v)) (high v lt)
+      ∙ tighter_upper-tighter_upper (upper_of b v) (upper_from a v) (upper_bound left' v)
+      ∙ ap (λ (xs : List PlainKeyAtom). tighter_upper (upper_of b v) (upper_bound xs v)) (sym first) ∙ h.upper v lt;
+}
+
+-- no atom is left
+pub lead-end : (b : PlainBounds) (left whole : List PlainKeyAtom) → left ≡ [] → AreBounds b → LeadTo b left whole
+    → b ≡ key_bounds whole
+unfolding key_bounds variables
+lead-end b left whole none limits h =
+    let low : (v : ℕ) → v < 64 → lower_of b v ≡ lower_bound whole v = λ v lt.
+    sym (tighter_lower-none (lower_of b v))
+    ∙ ap (λ (xs : List PlainKeyAtom). tighter_lower (lower_of b v) (lower_bound xs v)) (sym none) ∙ h.lower v lt in
+    let high : (v : ℕ) → v < 64 → upper_of b v ≡ upper_bound whole v = λ v lt.
+    sym (tighter_upper-none (upper_of b v))
+    ∙ ap (λ (xs : List PlainKeyAtom). tighter_upper (upper_of b v) (upper_bound xs v)) (sym none) ∙ h.upper v lt in
+    λ i. record {
+      lower = fill_by_all (lower_bound whole) b.lower 64 None limits.lower_len low i;
+      upper = fill_by_all (upper_bound whole) b.upper 64 None limits.upper_len high i;
+    }
 
 -- ---- values of forms
 

@@ -18,6 +18,8 @@ mod SumLemmas
 mod LeafLemmas
 mod WalkLemmas
 mod ReadingLemmas
+mod ChosenLemmas
+mod EndingLemmas
 mod OneAnswer
 mod BoxedLemmas
 mod BoundedLemmas

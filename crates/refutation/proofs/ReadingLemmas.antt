@@ -15,7 +15,7 @@ use Rattle.refutation.specs.Bounds.{is_empty}
 use Rattle.refutation.specs.Box.{PlainBox, left_half, right_half, on_side}
 use Rattle.refutation.specs.Leaf.{combo_closes, fixed_closes}
 use Rattle.refutation.specs.Reading.{is_split, names_ne, Treated, treated, TreeReading, nothing_read, behind, read_over}
-use Rattle.refutation.specs.Reading.{strict_reading, Refutes, FailsAt, EndsEarly, GoesOn}
+use Rattle.refutation.specs.Endings.{ClosesAll, StopsAt, LeavesBoxes, LeavesMore}
 use Rattle.refutation.specs.ReadingFacts.{read-some, read-none}
 use Rattle.refutation.specs.Facts.{OnFirst-weaker}
 use Rattle.refutation.specs.Walk.{OnFirst, Puts, Treats}
@@ -174,29 +174,28 @@ reading-step key i nodes d terms at n box boxes rest new taken whole lt within f
 -- ---- where it stops
 
 -- a node is left over
-pub reading-goes_on : (key : List PlainKeyAtom) (i : ℕ) (nodes : List Node) (d : Node)
-    (terms taken_from : List LeafTerm) (boxes : List PlainBox)
-    → i < length nodes → boxes ≡ [] → IsBehind i (read_over false key (drop i nodes) terms boxes)
-    (strict_reading key nodes taken_from) → GoesOn key nodes taken_from
+pub reading-goes_on : (key : List PlainKeyAtom) (i : ℕ) (nodes : List Node) (d : Node) (terms : List LeafTerm)
+    (boxes : List PlainBox) (whole : TreeReading)
+    → i < length nodes → boxes ≡ [] → IsBehind i (read_over false key (drop i nodes) terms boxes) whole
+    → LeavesMore whole
 unfolding read_over
-reading-goes_on key i nodes d terms taken_from boxes lt none h =
+reading-goes_on key i nodes d terms boxes whole lt none h =
     let is = ap (λ (ns : List Node). read_over false key ns terms boxes) (drop_more nodes i d lt)
     ∙ ap (read_over false key (get_or nodes i d ∷ drop (i + 1) nodes) terms) none in
-    let at_end = subst (λ (r : TreeReading). IsBehind i r (strict_reading key nodes taken_from)) is h in
+    let at_end = subst (λ (r : TreeReading). IsBehind i r whole) is h in
     record { no_boxes = at_end.boxes; some_left = inl (λ e. let rest = at_end.rest in absurd (cc)) }
 
 -- the node may not stand at its box
-pub reading-fails : (key : List PlainKeyAtom) (i : ℕ) (nodes : List Node) (d : Node) (terms taken_from : List LeafTerm)
-    (box : PlainBox) (boxes rest new : List PlainBox) (taken : Option ℕ)
+pub reading-fails : (key : List PlainKeyAtom) (i : ℕ) (nodes : List Node) (d : Node) (terms : List LeafTerm)
+    (box : PlainBox) (boxes rest new : List PlainBox) (taken : Option ℕ) (whole : TreeReading)
     → i < length nodes → boxes ≡ box ∷ rest → taken ≡ None
     → Treats (treated false key box (get_or nodes i d) terms) terms taken rest new
-    → IsBehind i (read_over false key (drop i nodes) terms boxes) (strict_reading key nodes taken_from)
-    → FailsAt key nodes taken_from i
-reading-fails key i nodes d terms taken_from box boxes rest new taken lt first none h before =
+    → IsBehind i (read_over false key (drop i nodes) terms boxes) whole → StopsAt whole i
+reading-fails key i nodes d terms box boxes rest new taken whole lt first none h before =
     let no_way = treats_none (treated false key box (get_or nodes i d) terms) terms taken rest new none h in
     let is = node-at key i nodes d terms box boxes rest lt first
     ∙ read-none false key (get_or nodes i d) (drop (i + 1) nodes) terms box rest no_way in
-    let at_end = subst (λ (r : TreeReading). IsBehind i r (strict_reading key nodes taken_from)) is before in
+    let at_end = subst (λ (r : TreeReading). IsBehind i r whole) is before in
     record {
       before = omega (arith, at_end.met);
       some_rest = λ e. let left = at_end.rest in absurd (cc);
@@ -211,25 +210,21 @@ nodes-read key i nodes terms boxes le =
     ap (λ (ns : List Node). read_over false key ns terms boxes) (drop_of_length-le nodes le)
 
 -- and a box is
-pub reading-ends : (key : List PlainKeyAtom) (i : ℕ) (nodes : List Node) (terms taken_from : List LeafTerm)
-    (box : PlainBox) (boxes rest : List PlainBox)
+pub reading-ends : (key : List PlainKeyAtom) (i : ℕ) (nodes : List Node) (terms : List LeafTerm)
+    (box : PlainBox) (boxes rest : List PlainBox) (whole : TreeReading)
     → length nodes ≤ i → boxes ≡ box ∷ rest
-    → IsBehind i (read_over false key (drop i nodes) terms boxes) (strict_reading key nodes taken_from)
-    → EndsEarly key nodes taken_from
-reading-ends key i nodes terms taken_from box boxes rest le first h =
-    let at_end = subst (λ (r : TreeReading). IsBehind i r (strict_reading key nodes taken_from))
-    (nodes-read key i nodes terms boxes le) h in
+    → IsBehind i (read_over false key (drop i nodes) terms boxes) whole → LeavesBoxes whole
+reading-ends key i nodes terms box boxes rest whole le first h =
+    let at_end = subst (λ (r : TreeReading). IsBehind i r whole) (nodes-read key i nodes terms boxes le) h in
     record { no_rest = at_end.rest; some_boxes = λ e. let left = at_end.boxes in absurd (cc) }
 
 -- nor a box; no term is left, or one is
-pub reading-refuted : (key : List PlainKeyAtom) (i : ℕ) (nodes : List Node) (terms : List LeafTerm) (at : ℕ)
-    (boxes : List PlainBox)
+pub reading-closes : (key : List PlainKeyAtom) (i : ℕ) (nodes : List Node) (terms : List LeafTerm) (at : ℕ)
+    (boxes : List PlainBox) (whole : TreeReading)
     → length nodes ≤ i → boxes ≡ [] → length terms ≤ at
-    → IsBehind i (read_over false key (drop i nodes) (drop at terms) boxes) (strict_reading key nodes terms)
-    → Refutes key nodes terms
-reading-refuted key i nodes terms at boxes le none all h =
-    let at_end = subst (λ (r : TreeReading). IsBehind i r (strict_reading key nodes terms))
-    (nodes-read key i nodes (drop at terms) boxes le) h in
+    → IsBehind i (read_over false key (drop i nodes) (drop at terms) boxes) whole → ClosesAll whole
+reading-closes key i nodes terms at boxes whole le none all h =
+    let at_end = subst (λ (r : TreeReading). IsBehind i r whole) (nodes-read key i nodes (drop at terms) boxes le) h in
     record {
       no_rest =
           at_end.rest;
@@ -238,13 +233,11 @@ reading-refuted key i nodes terms at boxes le none all h =
     }
 
 pub reading-term_left : (key : List PlainKeyAtom) (i : ℕ) (nodes : List Node) (terms : List LeafTerm) (at : ℕ)
-    (d : LeafTerm) (boxes : List PlainBox)
+    (d : LeafTerm) (boxes : List PlainBox) (whole : TreeReading)
     → length nodes ≤ i → boxes ≡ [] → at < length terms
-    → IsBehind i (read_over false key (drop i nodes) (drop at terms) boxes) (strict_reading key nodes terms)
-    → GoesOn key nodes terms
-reading-term_left key i nodes terms at d boxes le none lt h =
-    let at_end = subst (λ (r : TreeReading). IsBehind i r (strict_reading key nodes terms))
-    (nodes-read key i nodes (drop at terms) boxes le) h in
+    → IsBehind i (read_over false key (drop i nodes) (drop at terms) boxes) whole → LeavesMore whole
+reading-term_left key i nodes terms at d boxes whole le none lt h =
+    let at_end = subst (λ (r : TreeReading). IsBehind i r whole) (nodes-read key i nodes (drop at terms) boxes le) h in
     let left = drop_more terms at d lt in
     record { no_boxes = at_end.boxes ∙ none; some_left = inr (λ e. let whole = at_end.terms in absurd (cc)) }
 

@@ -3,13 +3,12 @@ use Rattle.std.proofs.Common.{◌≡◌, ℕ, zero, suc, ◌-◌, ℤ, pos, ◌+
 use Rattle.std.proofs.Common.{◌∷◌, ◌++◌, length, get_or, set, take, reverse, refl, ap, sym, ◌∙◌, arith}
 use Rattle.std.proofs.Math.Seq.{take-append_seam}
 use Rattle.std.proofs.lemmas.List.{reverse-append, length-append}
-use Rattle.lin_model.specs.KeyAtom.{PlainKeyAtom}
 use Rattle.refutation.specs.declared.side.Side.{Side}
 use Rattle.refutation.specs.declared.turn.Turn.{Turn}
 use Rattle.refutation.specs.declared.turn.Turn.TheVariants.{SplitLeft, SplitRight, NeLeft}
-use Rattle.refutation.specs.Bounds.{PlainBounds, key_bounds, lower_of, upper_of, tighter_lower, tighter_upper}
+use Rattle.refutation.specs.Bounds.{PlainBounds, lower_of, upper_of, tighter_lower, tighter_upper}
 use Rattle.refutation.specs.Bounds.{with_lower, with_upper}
-use Rattle.refutation.specs.Box.{PlainBox, root_box, left_half, right_half, on_side}
+use Rattle.refutation.specs.Box.{PlainBox, left_half, right_half, on_side}
 use Rattle.refutation.specs.Walk.{parent, other_half, MovesOn, waiting, undecided, without_last_side}
 
 -- what stood at a place put back
@@ -141,11 +140,9 @@ walk-split_ne open_ turns turns' bounds sides sides' box rest i pushed added bef
     ∙ ap (λ (b : PlainBox). on_side b i false ∷ on_side b i true ∷ rest)
     (undecided-open open_ turns at box rest before).1
 
-pub walk-new : (turns : List Turn) (bounds : PlainBounds) (sides : List Side) (key : List PlainKeyAtom) → turns ≡ []
-    → bounds ≡ key_bounds key → sides ≡ [] → undecided true turns (record { bounds = bounds; sides = sides })
-    ≡ root_box key ∷ []
-walk-new turns bounds sides key no_turn of no_side =
+pub walk-new : (turns : List Turn) (bounds : PlainBounds) (sides : List Side) → turns ≡ [] → sides ≡ []
+    → undecided true turns (record { bounds = bounds; sides = sides }) ≡ record { bounds = bounds; sides = [] } ∷ []
+walk-new turns bounds sides no_turn no_side =
     ap (λ (bs : List PlainBox). record { bounds = bounds; sides = sides } ∷ bs)
     (waiting-none turns (record { bounds = bounds; sides = sides }) no_turn)
-    ∙ ap (λ (b : PlainBounds). record { bounds = b; sides = sides } ∷ []) of
-    ∙ ap (λ (ss : List Side). record { bounds = key_bounds key; sides = ss } ∷ []) no_side
+    ∙ ap (λ (ss : List Side). record { bounds = bounds; sides = ss } ∷ []) no_side

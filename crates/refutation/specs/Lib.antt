@@ -5,6 +5,8 @@ pub mod Leaf
 pub mod Glance
 pub mod Sum
 pub mod Reading
+pub mod Endings
+pub mod Chosen
 pub mod Tree
 pub mod Walk
 pub mod Cut

@@ -1,10 +1,11 @@
 //! Bounds: how far down and how far up each of 64 variables may go.
 
 ghost use Rattle.std.specs.Prelude.{◌≡◌, ◌==◌, if◌then◌else◌, None, replicate, slice_set, ◌+◌, ◌^◌, ◌<◌, ◌≤◌, ℕ};
-ghost use Rattle.std.specs.Prelude.{unsigned_abs, IfSome};
+ghost use Rattle.std.specs.Prelude.{unsigned_abs, IfSome, length};
 ghost use Rattle.lin_model.specs.KeyAtom.{AscendsBelow64};
 ghost use Rattle.lin_model.specs.Key.{IsKey};
 ghost use Rattle.refutation.specs.Boxed.{HasShortSides};
+ghost use Rattle.refutation.specs.Chosen.{chosen};
 ghost use Rattle.refutation.specs.Cut.{others};
 ghost use Rattle.refutation.specs.Bounds.{AreBounds, IsSide, lower_of, upper_of, lower_from, upper_from, tighter_lower};
 ghost use Rattle.refutation.specs.Bounds.{tighter_upper, with_lower, with_upper, key_bounds, is_empty, least, greatest};
@@ -43,6 +44,22 @@ impl Bounds {
         let mut bounds = Bounds::unbounded();
         for atom in key.atoms() {
             bounds.tighten(atom);
+        }
+        // A look at a field opens the bounds, so that the limits which the type keeps are known of them.
+        let _ = &bounds.lo;
+        bounds
+    }
+
+    /// The bounds of the chosen atoms of a key, those at whose place the choice has true.
+    pub(crate) fn of_chosen(key: &Key, choice: &[bool]) -> Bounds
+        requires { length choice.now ≡ length key.now }
+        ensures { result ≡ key_bounds (chosen key.now choice.now) }
+    {
+        let mut bounds = Bounds::unbounded();
+        for (place, atom) in key.atoms().iter().enumerate() {
+            if choice[place] {
+                bounds.tighten(atom);
+            }
         }
         // A look at a field opens the bounds, so that the limits which the type keeps are known of them.
         let _ = &bounds.lo;

@@ -2,11 +2,13 @@
 
 ghost use Rattle.std.specs.Prelude.{◌≡◌, ◌<◌, ◌∷◌, ◌&&◌, [], ℕ, Err, OnOk, length, take, nat_le, true, false, IfOk};
 ghost use Rattle.refutation.specs.Box.{left_half, right_half, on_side};
+ghost use Rattle.refutation.specs.Endings.{ClosesAll, StopsAt, LeavesBoxes, LeavesMore};
 ghost use Rattle.refutation.specs.Leaf.{combo_closes};
-ghost use Rattle.refutation.specs.Reading.{is_split, names_ne, treated, Refutes, FailsAt, EndsEarly, GoesOn};
+ghost use Rattle.refutation.specs.Reading.{is_split, names_ne, treated, read_over, Refutes, FailsAt, EndsEarly, GoesOn};
 ghost use Rattle.refutation.specs.Reading.{HasNoPoint};
 ghost use Rattle.refutation.specs.Walk.{OnFirst, Puts, Treats};
 
+use crate::bounds::Bounds;
 use crate::closing::atom_at;
 use crate::fault::TreeFault;
 use crate::leaf::LeafTerm;
@@ -36,7 +38,26 @@ pub fn refutes(
     ensures tree_ends { result ≡ Err TreeFault.TreeEnds → EndsEarly key.now nodes.now terms.now }
     ensures tree_goes_on { result ≡ Err TreeFault.TreeGoesOn → GoesOn key.now nodes.now terms.now }
 {
-    let mut walk = Walk::new(alloc, key);
+    let walk = Walk::new(alloc, Bounds::of(key));
+    close_all(walk, key, nodes, terms)
+}
+
+/// Reads a tree over the boxes of a walk. Ok comes only where each node may stand where it does, and the last of them
+/// closes the last box with no term to spare; the faults come exactly as their texts say, unless memory runs out first.
+pub(crate) fn close_all(
+    mut walk: Walk,
+    key: &Key,
+    nodes: &[Node],
+    terms: &[LeafTerm],
+) -> Result<(), TreeFault>
+    ensures closed { OnOk result (ClosesAll (read_over false key.now nodes.now terms.now walk)) }
+    ensures node_fails { (i : ℕ) → result ≡ Err (TreeFault.NodeFails i)
+        → StopsAt (read_over false key.now nodes.now terms.now walk) i }
+    ensures tree_ends { result ≡ Err TreeFault.TreeEnds
+        → LeavesBoxes (read_over false key.now nodes.now terms.now walk) }
+    ensures tree_goes_on { result ≡ Err TreeFault.TreeGoesOn
+        → LeavesMore (read_over false key.now nodes.now terms.now walk) }
+{
     let mut taken = 0;
     for (i, node) in nodes.iter().enumerate() {
         if !walk.is_open() {

@@ -3,6 +3,7 @@
 
 mod bounds;
 mod checker;
+mod chosen;
 mod closing;
 mod comparison;
 mod fault;
@@ -20,6 +21,7 @@ mod walk;
 
 pub use bounds::Bounds;
 pub use checker::refutes;
+pub use chosen::closes_chosen;
 pub use closing::{closes, fixed_closes, weight};
 pub use comparison::{Comparison, closes_alone, comparison_of};
 pub use fault::TreeFault;
@@ -33,4 +35,3 @@ pub use leaf::{Leaf, LeafTerm, On};
 pub use node::Node;
 pub use side::Side;
 pub use tree::Tree;
-pub use walk::Walk;

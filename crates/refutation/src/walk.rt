@@ -3,11 +3,9 @@
 ghost use Rattle.std.specs.Prelude.{◌≡◌, ◌^◌, ◌<◌, ◌≤◌, ◌↔◌, [], ◌∷◌, true, false, unsigned_abs, length, reverse, drop};
 ghost use Rattle.std.specs.Prelude.{IsTrue, IfOk, OnOk};
 ghost use Rattle.std.specs.List.{All};
-ghost use Rattle.lin_model.specs.Key.{IsKey};
-ghost use Rattle.refutation.specs.Box.{root_box, left_half, right_half, on_side};
+ghost use Rattle.refutation.specs.Box.{left_half, right_half, on_side};
 ghost use Rattle.refutation.specs.Leaf.{combo_closes, fixed_closes};
-ghost use Rattle.refutation.specs.Bounds.{is_empty, key_bounds};
-ghost use Rattle.refutation.specs.Boxed.{HasShortSides};
+ghost use Rattle.refutation.specs.Bounds.{is_empty};
 ghost use Rattle.refutation.specs.Walk.{IsTurn, OnFirst, waiting, undecided};
 
 use crate::bounds::Bounds;
@@ -43,15 +41,13 @@ impl Model for Walk {
 }
 
 impl Walk {
-    /// The root box of a key.
-    pub fn new(alloc: Global, key: &Key) -> Walk
-        ensures root { result ≡ root_box key.now ∷ [] }
-        ensures sides { HasShortSides (key_bounds key.now) }
-        ensures key { IsKey key.now }
+    /// The one box of these bounds.
+    pub fn new(alloc: Global, bounds: Bounds) -> Walk
+        ensures { result ≡ record { bounds = bounds; sides = [] } ∷ [] }
     {
         Walk {
             open: true,
-            bounds: Bounds::of(key),
+            bounds,
             sides: Vec::new(alloc),
             path: Vec::new(alloc),
         }
@@ -62,13 +58,6 @@ impl Walk {
         ensures { IsTrue result ↔ (0 < length self.now) }
     {
         self.open
-    }
-
-    /// The bounds of the first box.
-    pub fn bounds(&self) -> &Bounds
-        ensures bounds { OnFirst self.now (λ box rest. result.now ≡ box.bounds) }
-    {
-        &self.bounds
     }
 
     /// Splits the first box at a cut of a variable.

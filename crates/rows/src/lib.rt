@@ -11,6 +11,8 @@ mod faults;
 #[cfg(test)]
 mod fixtures;
 #[cfg(test)]
+mod growing;
+#[cfg(test)]
 mod memory;
 #[cfg(test)]
 mod queries;

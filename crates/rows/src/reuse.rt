@@ -3,6 +3,7 @@ use crate::fixtures::{answers_of, expect_text, row_of, run, session_of, source_o
 use cert_check::{Entry, Event};
 use green_cli::Report;
 use outside::MemSink;
+use refutation::{LeafTerm, Node, On, Tree};
 use std::alloc::{AllocError, Global};
 use std::process::Abort;
 use std::test::Fail;
@@ -40,12 +41,13 @@ sat x=3 [new 0];sat y=3 [hit 0];sat z=1 [new 1]:\
 var x 0 10;2*x <= 7;x >= 3;query;var y 0 100;y >= 2;query;var z 0 2;z >= 1;
 sat x=3 [new 0];sat y=2 [new 1];sat z=3 [hit 0]:var x 0 10;x >= 3;query;var y 0 5;y >= 2;query;var z 0 20;";
 
-/// A core answers a slice whose comparisons imply each of its own, the bounds among them: `x <= 9` implies `x <= 50`,
-/// and not the other way round.
+/// A core answers a slice whose comparisons imply each of its own. Two that shut each other out need no bounds, so they
+/// answer whatever the bounds are. A sum that exceeds what its bounds allow has them in the core: `x <= 8` implies
+/// `x <= 9`, and `x <= 10` doesn't.
 const CORES: &str = "unsat slice 1 [new 0];unsat slice 1 [hit 0]:\
-var x 0 50;var y 0 50;x - y >= 1;y - x >= 1;query;var x 0 9;var y 0 9;x - y >= 5;x - y <= -7;x + y <= 3;
-unsat slice 1 [new 0];unsat slice 1 [new 1]:\
-var x 0 9;var y 0 9;x - y >= 1;y - x >= 1;query;var x 0 50;var y 0 50;x - y >= 5;x - y <= -7;x + y <= 3;";
+var x 0 9;var y 0 9;x - y >= 1;y - x >= 1;query;var x 0 50;var y 0 50;x - y >= 5;x - y <= -7;x + y <= 3;
+unsat slice 1 [new 0];unsat slice 1 [hit 0];unsat slice 1 [new 1]:\
+var x 0 9;var y 0 5;x + y >= 15;query;var x -7 8;var y 2 5;x + y >= 16;query;var x 0 10;var y 0 4;x + y >= 15;";
 
 /// A query of which both slices have the same entry, and executors of which the second has only hits.
 const SEVERAL: &str = "sat x=0 y=0 [new 0] [hit 0]:var x 0 9;var y 0 9;
@@ -61,13 +63,15 @@ fn the_report_tells_the_events_and_the_entries(rt: HostRuntime) -> Result<(), Fa
 }
 
 /// For each session its events and its entries, each with a bar behind it: a flight of seat 0 with how many entries
-/// were seen, and how it ended; an entry with the number of its comparisons, two for the bounds of each variable among
-/// them, and its point.
+/// were seen, and how it ended; an entry with the number of its comparisons, and its point or its tree. A point's entry
+/// has two comparisons for the bounds of a variable, a core only what its tree needs.
 const REPORTS: &str =
     "0 begins at 0|0 ends Kept(0)|0 begins at 1|0 ends Kept(1)|2 hold at [3]|2 hold at [1]|:\
 var x 0 10;2*x <= 7;x >= 3;query;var y 0 100;y >= 2;query;var z 0 2;z >= 1;
-0 begins at 0|0 ends Kept(0)|6 never hold|:\
-var x 0 50;var y 0 50;x - y >= 1;y - x >= 1;query;var x 0 9;var y 0 9;x - y >= 5;x - y <= -7;x + y <= 3;";
+0 begins at 0|0 ends Kept(0)|2 never hold by combo 1*a0 1*a1|:\
+var x 0 9;var y 0 9;x - y >= 1;y - x >= 1;query;var x 0 50;var y 0 50;x - y >= 5;x - y <= -7;x + y <= 3;
+0 begins at 0|0 ends Kept(0)|3 never hold by combo 1*a1|:var x 0 9;var y 0 5;x + y >= 15;
+0 begins at 0|0 ends Kept(0)|2 never hold by nesplit combo combo -1*a0 1*s0 1*a0 1*s0|:var x 0 9;var y 0 9;x = y;x != y;";
 
 /// Expects the events and entries of a row in the report on the queries behind them.
 fn expect_report(rt: &(impl Abort + AllocGlobal), row: &str) -> Result<(), Fail> {
@@ -79,7 +83,7 @@ fn expect_report(rt: &(impl Abort + AllocGlobal), row: &str) -> Result<(), Fail>
 }
 
 /// The report on the queries with these lines.
-fn report_on(alloc: Global, lines: &str) -> Result<Report, AllocError> {
+pub fn report_on(alloc: Global, lines: &str) -> Result<Report, AllocError> {
     let text = session_of(alloc, lines)?;
     let mut source = source_of(alloc, text.as_str(), &[])?;
     let mut sink = MemSink::new(alloc, Vec::new(alloc));
@@ -88,7 +92,7 @@ fn report_on(alloc: Global, lines: &str) -> Result<Report, AllocError> {
 }
 
 /// The events and the entries of a report.
-fn told_by(alloc: Global, report: &Report) -> Result<String, AllocError> {
+pub fn told_by(alloc: Global, report: &Report) -> Result<String, AllocError> {
     let mut text = String::new(alloc);
     for event in report.log.as_slice() {
         text.push_str(event_text(alloc, event)?.as_str())?;
@@ -110,6 +114,40 @@ fn entry_text(alloc: Global, entry: &Entry) -> Result<String, AllocError> {
     let count = entry.key().atoms().len();
     match entry {
         Entry::Sat(entry) => format!(in alloc; "{count} hold at {:?}|", entry.point().values()),
-        Entry::Unsat(_) => format!(in alloc; "{count} never hold|"),
+        Entry::Unsat(entry) => {
+            let tree = tree_text(alloc, entry.tree())?;
+            format!(in alloc; "{count} never hold by{}|", tree.as_str())
+        }
+    }
+}
+
+/// The nodes of a tree, by their kinds, and then its terms, each with a space before it.
+fn tree_text(alloc: Global, tree: &Tree) -> Result<String, AllocError> {
+    let mut text = String::new(alloc);
+    for node in tree.nodes() {
+        text.push_str(kind_of(*node))?;
+    }
+    for term in tree.terms() {
+        text.push_str(term_text(alloc, *term)?.as_str())?;
+    }
+    Ok(text)
+}
+
+fn kind_of(node: Node) -> &'static str {
+    match node {
+        Node::Split { .. } => " split",
+        Node::NeSplit { .. } => " nesplit",
+        Node::Combo { .. } => " combo",
+        Node::Fixed { .. } => " fixed",
+        Node::Empty => " empty",
+        Node::Left => " left",
+    }
+}
+
+fn term_text(alloc: Global, term: LeafTerm) -> Result<String, AllocError> {
+    let factor = term.factor;
+    match term.on {
+        On::Atom(atom) => format!(in alloc; " {factor}*a{atom}"),
+        On::Side(side) => format!(in alloc; " {factor}*s{side}"),
     }
 }

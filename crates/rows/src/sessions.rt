@@ -1,5 +1,6 @@
 //! Worked sessions from bytes to bytes.
 use crate::fixtures::{ANSWERS, SESSION, expect_query, expect_text, push_numbered, run, source_of};
+use crate::reuse::{report_on, told_by};
 use cert_check::Reply;
 use green_cli::Report;
 use lin_model::Condition;
@@ -186,11 +187,18 @@ fn an_unknown_answer_among_others_makes_the_status_3(rt: HostRuntime) -> Result<
     expect_text(&rt, "solve|--budget=1", text.as_str(), (3, answers))
 }
 
-/// The sum of the least values is past 64 bits.
+/// The sum of the least values is past 64 bits. The core has the comparison and the 64 lower bounds.
 #[test]
 fn sums_past_64_bits_are_reckoned(rt: HostRuntime) -> Result<(), Fail> {
     let lines = wide_query(rt.alloc())?;
-    expect_query(&rt, "solve", lines.as_str(), (0, "unsat slice 1 [new 0]"))
+    expect_query(&rt, "solve", lines.as_str(), (0, "unsat slice 1 [new 0]"))?;
+    let told = told_by(rt.alloc(), &report_on(rt.alloc(), lines.as_str())?)?;
+    let events = "0 begins at 0|0 ends Kept(0)|";
+    assert_eq!(rt;
+        told.as_str().strip_prefix(events),
+        Some("65 never hold by combo 1*a1|")
+    );
+    Ok(())
 }
 
 /// 64 variables that are 2^31, and 2^31 times each but the last, whose factor is one less, in one sum that is to be at

@@ -15,7 +15,7 @@ use Rattle.refutation.specs.SearchTree.{IsOpenTree}
 use Rattle.refutation.specs.Tree.{PlainTree}
 use Rattle.box_solver.specs.declared.found.Found.{Found}
 use Rattle.box_solver.specs.declared.found.Found.TheVariants.{Model, Refuted, Spent as SearchSpent}
-use Rattle.box_solver.specs.Answer.{IsAnswer}
+use Rattle.box_solver.specs.Answer.{IsAnswer, IsRefutingTree}
 use Rattle.box_solver.specs.Laws.{EachHasAnswer}
 use Rattle.cert_check.specs.declared.entry.Entry.{Entry}
 use Rattle.cert_check.specs.declared.entry.Entry.TheVariants.{Sat, Unsat}
@@ -25,14 +25,27 @@ use Rattle.cert_check.specs.declared.saved.Saved.{Saved}
 use Rattle.cert_check.specs.declared.saved.Saved.TheVariants.{Fault as SavedFault, Off}
 use Rattle.cert_check.specs.declared.wrote.Wrote.{Wrote}
 use Rattle.cert_check.specs.declared.wrote.Wrote.TheVariants.{Fault}
-use Rattle.cert_check.specs.Asks.{CanBeAsked, IsReady}
+use Rattle.cert_check.specs.Asks.{IsReady}
 use Rattle.cert_check.specs.Calls.{MakesCall, writes_by}
 use Rattle.cert_check.specs.Decides.{Decides, IsChecked, NoneDecides, IsFirstDeciding}
 use Rattle.cert_check.specs.Laws.{EntriesDecideTheirKeys, FirstPlacesExist}
 use Rattle.cert_check.specs.Machine.{Turn, kept, unkept, spent, max_entries}
+use Rattle.cert_check.specs.Shrunk.{ShrunkEntriesDecide}
 use Rattle.cert_check.specs.Seats.{SeatState, IsSound, entries_of, turns_of, wrotes_of}
-use Rattle.shared_store.specs.Laws.{KeysCanBeAsked}
+use Rattle.unsat_core.specs.Laws.{ChosenAreKeys, RefutedKeysHaveCores}
+use Rattle.shared_store.specs.Laws.{CanBeSolved, KeysCanBeAsked, KeysCanBeSolved}
+use Rattle.shared_store.specs.Solving.{IsEntryFor}
+use Rattle.shared_store.proofs.SolvingLemmas.{core_refuted, entry_by_core, entry_by_model}
 use Rattle.shared_store.proofs.FlyingLemmas.{IsEnd, Flies, first_flies, first_gone, fly}
+
+-- what the crates below promise
+pub record Laws : Type 0 where
+  pub own : EntriesDecideTheirKeys
+  pub answers : EachHasAnswer
+  pub firsts : FirstPlacesExist
+  pub cores : RefutedKeysHaveCores
+  pub chosen : ChosenAreKeys
+  pub shrunk : ShrunkEntriesDecide
 
 -- ---- entries
 
@@ -70,7 +83,7 @@ own_writes seat entry false = cond-true (seat == seat) (Fault seat ∷ []) [] (e
 
 module _ (budget : ℕ) (key : List PlainKeyAtom) (seat : SeatState) (ready : IsReady seat) where
   -- an entry that it may see decides the key
-  by_hit : (place : ℕ) → IsFirstDeciding (entries_of seat) key (Some place) → CanBeAsked budget key seat
+  by_hit : (place : ℕ) → IsFirstDeciding (entries_of seat) key (Some place) → CanBeSolved budget key seat
   by_hit place first =
       let n : ℕ = length (entries_of seat) in
       let later : SeatState =
@@ -118,6 +131,7 @@ module _ (budget : ℕ) (key : List PlainKeyAtom) (seat : SeatState) (ready : Is
           saves = tt;
         };
         ready = record { sound = is_sound; checked = ready.checked; few = ready.few };
+        searched = tt;
       }
 
   -- its own flight
@@ -148,9 +162,9 @@ module _ (budget : ℕ) (key : List PlainKeyAtom) (seat : SeatState) (ready : Is
   -- where no entry decides the key
   module _ (none : NoneDecides (entries_of seat) key) where
     -- an entry that decides it is kept where there is room
-    by_keeping : (entry : Entry) → Decides entry key → IsChecked entry → length (entries_of seat) < max_entries
-        → CanBeAsked budget key seat
-    by_keeping entry decides checked room =
+    by_keeping : (entry : Entry) → IsEntryFor budget key entry → length (entries_of seat) < max_entries
+        → CanBeSolved budget key seat
+    by_keeping entry for_key room =
         let n : ℕ = length (entries_of seat) in
         let saved : Saved = saved_by seat.terms.off in
         let end : Turn = kept seat.terms.number n entry in
@@ -160,7 +174,7 @@ module _ (budget : ℕ) (key : List PlainKeyAtom) (seat : SeatState) (ready : Is
           may = record {
             key = key;
             flying = (0, flight, omega arith, refl, refl);
-            decides = decides;
+            decides = for_key.decides;
             room = room;
             at_end = refl;
           };
@@ -190,23 +204,24 @@ module _ (budget : ℕ) (key : List PlainKeyAtom) (seat : SeatState) (ready : Is
                 counted = omega arith;
                 within = omega (arith, long);
               };
-              decides = decides;
-              checked = checked;
+              decides = for_key.decides;
+              checked = for_key.checked;
             };
             saves = saved_rightly seat.terms.off;
           };
           ready = record {
             sound = flies.sound;
             checked = subst (All IsChecked) (sym flies.entries)
-                (All-push IsChecked (entries_of seat) entry ready.checked checked);
+                (All-push IsChecked (entries_of seat) entry ready.checked for_key.checked);
             few = omega (arith, long, room);
           };
+          searched = for_key.found;
         }
 
     -- and turned away where there is none
-    without_room : (entry : Entry) → Decides entry key → IsChecked entry → length (entries_of seat) ≡ max_entries
-        → CanBeAsked budget key seat
-    without_room entry decides checked full =
+    without_room : (entry : Entry) → IsEntryFor budget key entry → length (entries_of seat) ≡ max_entries
+        → CanBeSolved budget key seat
+    without_room entry for_key full =
         let n : ℕ = length (entries_of seat) in
         let saved : Saved = saved_by seat.terms.off in
         let end : Turn = unkept seat.terms.number in
@@ -236,16 +251,17 @@ module _ (budget : ℕ) (key : List PlainKeyAtom) (seat : SeatState) (ready : Is
                 all = full;
                 full = ap length flies.entries ∙ full;
               };
-              decides = decides;
-              checked = checked;
+              decides = for_key.decides;
+              checked = for_key.checked;
             };
             saves = saved_rightly seat.terms.off;
           };
           ready = still_ready end writes flies flies.entries;
+          searched = for_key.found;
         }
 
     -- a search may spend the whole budget
-    by_spending : (tree : PlainTree) → IsOpenTree key budget tree.nodes tree.terms → CanBeAsked budget key seat
+    by_spending : (tree : PlainTree) → IsOpenTree key budget tree.nodes tree.terms → CanBeSolved budget key seat
     by_spending tree is_open =
         let n : ℕ = length (entries_of seat) in
         let end : Turn = spent seat.terms.number in
@@ -273,38 +289,57 @@ module _ (budget : ℕ) (key : List PlainKeyAtom) (seat : SeatState) (ready : Is
             saves = tt;
           };
           ready = still_ready end [] flies flies.entries;
+          searched = tt;
         }
 
     -- an entry that decides it is kept or turned away
-    by_entry : (entry : Entry) → Decides entry key → IsChecked entry → CanBeAsked budget key seat
-    by_entry entry decides checked = elim (cases_lt (length (entries_of seat)) max_entries) [
-      | inl room ↦ by_keeping entry decides checked room
-      | inr full ↦ without_room entry decides checked (omega (arith, full, ready.few))
+    by_entry : (entry : Entry) → IsEntryFor budget key entry → CanBeSolved budget key seat
+    by_entry entry for_key = elim (cases_lt (length (entries_of seat)) max_entries) [
+      | inl room ↦ by_keeping entry for_key room
+      | inr full ↦ without_room entry for_key (omega (arith, full, ready.few))
     ]
 
+    -- the entry of a core of the key
+    by_core : Laws → IsKey key → (tree : PlainTree) → IsRefutingTree key budget tree.nodes tree.terms
+        → CanBeSolved budget key seat
+    by_core laws is_key tree refuting =
+        let has = laws.cores key tree refuting.refutes in
+        let entry : Entry = Unsat (record { key = has.core; tree = has.core_tree }) in
+        by_entry entry
+        (entry_by_core budget key tree entry has.is
+        (record {
+          key = subst IsKey (sym has.is.atoms) (laws.chosen key has.is.choice is_key);
+          evidence = core_refuted key tree has.core has.core_tree has.is;
+        })
+        (laws.shrunk key tree entry has.is) refuting)
+
     -- whatever the search answers
-    by_search : EntriesDecideTheirKeys → IsKey key → (found : Found) (nodes : List Node) (terms : List LeafTerm)
-        → IsAnswer key budget found nodes terms → CanBeAsked budget key seat
-    by_search own is_key (Model point) nodes terms answer =
+    by_search : Laws → IsKey key → (found : Found) (nodes : List Node) (terms : List LeafTerm)
+        → IsAnswer key budget found nodes terms → CanBeSolved budget key seat
+    by_search laws is_key (Model point) nodes terms answer =
         let entry : Entry = Sat (record { key = key; point = point.items }) in
-        by_entry entry (own entry)
-        (record { key = is_key; evidence = record { one_each = answer.one_each; holds = answer.holds } })
-    by_search own is_key Refuted nodes terms answer =
-        let entry : Entry = Unsat (record { key = key; tree = record { nodes = nodes; terms = terms } }) in
-        by_entry entry (own entry) (record { key = is_key; evidence = answer.refutes })
-    by_search own is_key SearchSpent nodes terms answer =
+        by_entry entry
+        (entry_by_model laws.own budget key point.items is_key (record { nodes = nodes; terms = terms; tree = answer }))
+    by_search laws is_key Refuted nodes terms answer =
+        by_core laws is_key (record { nodes = nodes; terms = terms }) answer
+    by_search laws is_key SearchSpent nodes terms answer =
         by_spending (record { nodes = nodes; terms = terms }) answer.open_tree
 
   -- by the first entry that decides the key, or by the search
-  by_first : EntriesDecideTheirKeys → EachHasAnswer → IsKey key → IsBoxed key → (place : Option ℕ)
-      → IsFirstDeciding (entries_of seat) key place → CanBeAsked budget key seat
-  by_first own answers is_key boxed None none =
-      let search = answers key budget is_key boxed in
-      by_search none own is_key search.found search.nodes search.terms search.answer
-  by_first own answers is_key boxed (Some place) first = by_hit place first
+  by_first : Laws → IsKey key → IsBoxed key → (place : Option ℕ)
+      → IsFirstDeciding (entries_of seat) key place → CanBeSolved budget key seat
+  by_first laws is_key boxed None none =
+      let search = laws.answers key budget is_key boxed in
+      by_search none laws is_key search.found search.nodes search.terms search.answer
+  by_first laws is_key boxed (Some place) first = by_hit place first
 
--- so each key can be asked of each ready seat
-pub each_key : EntriesDecideTheirKeys → EachHasAnswer → FirstPlacesExist → KeysCanBeAsked
-each_key own answers firsts budget key seat is_key boxed ready =
-    let has_first = firsts (entries_of seat) key in
-    by_first budget key seat ready own answers is_key boxed has_first.place has_first.first
+-- so each key can be asked of each ready seat, and solved
+pub each_key_solved : Laws → KeysCanBeSolved
+each_key_solved laws budget key seat is_key boxed ready =
+    let has_first = laws.firsts (entries_of seat) key in
+    by_first budget key seat ready laws is_key boxed has_first.place has_first.first
+
+pub each_key : KeysCanBeSolved → KeysCanBeAsked
+each_key solved budget key seat is_key boxed ready =
+    let can = solved budget key seat is_key boxed ready in
+    record { reply = can.reply; later = can.later; asks = can.asks; ready = can.ready }

@@ -2,14 +2,20 @@
 use Rattle.std.proofs.Common.{◌≡◌, ◌∙◌, ℕ, ◌+◌, ◌-◌, ◌*◌, ℤ, List, [], ◌++◌, length, take, ap, refl, sym, subst, arith}
 use Rattle.lin_model.specs.Key.{IsKey}
 use Rattle.lin_model.specs.KeyAtom.{PlainKeyAtom}
+use Rattle.refutation.specs.Reading.{Refutes}
 use Rattle.refutation.specs.Tree.{PlainTree}
+use Rattle.unsat_core.specs.Cores.{IsCoreOf}
+use Rattle.unsat_core.specs.Renumbered.{renumbered}
 use Rattle.refutation.specs.declared.leaf.LeafTerm.{LeafTerm}
 use Rattle.refutation.specs.declared.node.Node.{Node}
 use Rattle.box_solver.specs.Answer.{Answers, IsAnswer, IsRefutingTree}
 use Rattle.box_solver.specs.Region.{Adds, PlainTreeRegion, TrailItem}
 use Rattle.box_solver.specs.declared.found.Found.{Found}
+use Rattle.cert_check.specs.declared.entry.Entry.{Entry}
 use Rattle.cert_check.specs.declared.entry.Entry.TheVariants.{Sat, Unsat}
+use Rattle.cert_check.specs.Decides.{Decides, IsChecked}
 use Rattle.cert_check.specs.Laws.{EntriesDecideTheirKeys}
+use Rattle.cert_check.specs.Shrunk.{IsShrunk}
 use Rattle.shared_store.specs.Solving.{IsBlank, HoldsTree, IsEntryFor, IsModelWithin}
 
 -- the entry of a key and a model to which a search came
@@ -21,14 +27,23 @@ entry_by_model law budget key point is within = record {
   found = (refl, within);
 }
 
--- the entry of a key and a tree that a search built
-pub entry_by_tree : EntriesDecideTheirKeys → (budget : ℕ) (key : List PlainKeyAtom) (tree : PlainTree) → IsKey key
-    → IsRefutingTree key budget tree.nodes tree.terms
-    → IsEntryFor budget key (Unsat (record { key = key; tree = tree }))
-entry_by_tree law budget key tree is refuting = record {
-  checked = record { key = is; evidence = refuting.refutes };
-  decides = law (Unsat (record { key = key; tree = tree }));
-  found = (refl, refuting);
+-- the tree of a core refutes it
+pub core_refuted : (key : List PlainKeyAtom) (tree : PlainTree) (core : List PlainKeyAtom) (core_tree : PlainTree)
+    → IsCoreOf key tree core core_tree → Refutes core core_tree.nodes core_tree.terms
+core_refuted key tree core core_tree is =
+    subst (λ (t : PlainTree). Refutes core t.nodes t.terms) (sym is.adjusted)
+    (subst (λ (atoms : List PlainKeyAtom). Refutes atoms (renumbered is.choice tree).nodes
+    (renumbered is.choice tree).terms) (sym is.atoms) is.least.refutes)
+
+-- the entry of a core of a key, by a tree that a search built
+pub entry_by_core : (budget : ℕ) (key : List PlainKeyAtom) (tree : PlainTree) (entry : Entry)
+    → IsShrunk key tree entry → IsChecked entry → Decides entry key → IsRefutingTree key budget tree.nodes tree.terms
+    → IsEntryFor budget key entry
+entry_by_core budget key tree (Sat e) shrunk checked decides refuting = absurd shrunk
+entry_by_core budget key tree (Unsat e) shrunk checked decides refuting = record {
+  checked = checked;
+  decides = decides;
+  found = record { nodes = tree.nodes; terms = tree.terms; tree = refuting; core = shrunk };
 }
 
 -- what was added to a blank region is all that it has

@@ -9,9 +9,11 @@ use Rattle.refutation.specs.declared.node.Node.{Node}
 use Rattle.tree_pool.specs.Region.{blank}
 use Rattle.box_solver.specs.Answer.{IsModelTree, IsRefutingTree}
 use Rattle.box_solver.specs.Region.{PlainTreeRegion}
+use Rattle.unsat_core.specs.Cores.{IsCoreOf}
 use Rattle.cert_check.specs.declared.entry.Entry.{Entry}
 use Rattle.cert_check.specs.declared.entry.Entry.TheVariants.{Sat, Unsat}
 use Rattle.cert_check.specs.Decides.{Decides, IsChecked}
+use Rattle.cert_check.specs.Entries.{PlainUnsatEntry}
 use Rattle.shared_store.specs.declared.solving.Evidence.{Evidence}
 use Rattle.shared_store.specs.declared.solving.Evidence.TheVariants.{Decided, Open}
 
@@ -27,10 +29,18 @@ pub record IsModelWithin (budget : ℕ) (key : List PlainKeyAtom) (point : List 
   pub terms : List LeafTerm
   pub tree : IsModelTree key budget point nodes terms
 
--- a search of at most the budget's splits came to the evidence of the entry, which has the whole key
+-- a search of at most the budget's splits refuted the key, and the entry has a core of the key by the search's tree
+pub record IsCoreWithin (budget : ℕ) (key : List PlainKeyAtom) (e : PlainUnsatEntry) : Type 0 where
+  pub nodes : List Node
+  pub terms : List LeafTerm
+  pub tree : IsRefutingTree key budget nodes terms
+  pub core : IsCoreOf key (record { nodes = nodes; terms = terms }) e.key e.tree
+
+-- a search of at most the budget's splits came to the evidence of the entry: a model of the whole key, or a tree that the
+-- entry has for a core of it
 abbrev pub IsFoundWithin : ℕ → List PlainKeyAtom → Entry → Type 0
 IsFoundWithin budget key (Sat e) = (e.key ≡ key) × IsModelWithin budget key e.point
-IsFoundWithin budget key (Unsat e) = (e.key ≡ key) × IsRefutingTree key budget e.tree.nodes e.tree.terms
+IsFoundWithin budget key (Unsat e) = IsCoreWithin budget key e
 
 -- a checked entry that decides the key, to which such a search came
 pub record IsEntryFor (budget : ℕ) (key : List PlainKeyAtom) (entry : Entry) : Type 0 where

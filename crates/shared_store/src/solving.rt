@@ -7,10 +7,12 @@ ghost use Rattle.box_solver.specs.Answer.{IsRefutingTree};
 ghost use Rattle.shared_store.specs.Solving.{IsBlank, HoldsTree, IsEntryFor, IsEvidence, IsModelPoint, IsModelWithin};
 
 use box_solver::{Found, TreeRegion, solve};
-use cert_check::{Entry, NotUnsat, Shared, check_sat, check_unsat, entries_decide_their_keys};
+use cert_check::{
+    Entry, Shared, check_sat, entries_decide_their_keys, shrink, shrunk_entries_decide,
+};
 use lin_model::{Key, Point};
 use outside::NoMemory;
-use refutation::Tree;
+use refutation::{LeafTerm, Node, Tree};
 use std::alloc::Global;
 
 /// What solving a key comes to.
@@ -58,7 +60,9 @@ fn search(
 {
     Ok(match solve(key, budget, region) {
         Found::Model(values) => Evidence::Decided(satisfied(alloc, key, &values)?),
-        Found::Refuted => Evidence::Decided(refuted(alloc, key, tree_in(alloc, region)?)?),
+        Found::Refuted => {
+            Evidence::Decided(refuted(alloc, key, region.nodes(), region.terms())?)
+        }
         Found::Spent => Evidence::Open(tree_in(alloc, region)?),
     })
 }
@@ -95,17 +99,19 @@ fn point_of(alloc: Global, values: &[i64]) -> Result<Point, NoMemory>
     }
 }
 
-/// The entry of the key and a tree that refutes it.
-fn refuted(alloc: Global, key: &Key, tree: Tree) -> Result<Shared<Entry>, NoMemory>
-    requires { Refutes key.now tree.nodes tree.terms }
-    ensures { (budget : ℕ) → IsRefutingTree key.now budget tree.nodes tree.terms
+/// The entry of a core of the key, by a tree that refutes it.
+fn refuted(
+    alloc: Global,
+    key: &Key,
+    nodes: &[Node],
+    terms: &[LeafTerm],
+) -> Result<Shared<Entry>, NoMemory>
+    requires { Refutes key.now nodes.now terms.now }
+    ensures { (budget : ℕ) → IsRefutingTree key.now budget nodes.now terms.now
         → IfOk result (IsEntryFor budget key.now) }
 {
-    entries_decide_their_keys();
-    key.keeps_limits();
-    match check_unsat(alloc, key.clone()?, tree) {
-        Ok(entry) => Ok(Shared::new(alloc, entry)?),
-        Err((NotUnsat::NoMemory, ..)) => Err(NoMemory),
-        Err(_) => unreachable!(),
-    }
+    shrunk_entries_decide();
+    let core = shrink(alloc, key, nodes, terms)?;
+    let _ = core.key();
+    Ok(Shared::new(alloc, core)?)
 }

@@ -1,11 +1,15 @@
-use Rattle.std.proofs.Common.{◌≡◌, rules, sym, subst}
-use Rattle.cert_check.specs.declared.entry.Entry.TheVariants.{Unsat}
+use Rattle.std.proofs.Common.{◌≡◌, sym, subst}
+use Rattle.refutation.specs.Tree.{PlainTree}
+use Rattle.cert_check.specs.Shrunk.{IsShrunk}
 use Rattle.shared_store.specs.Solving.{IsEntryFor}
-use Rattle.shared_store.proofs.SolvingLemmas.{entry_by_tree}
+use Rattle.shared_store.proofs.SolvingLemmas.{entry_by_core}
 use Rattle.shared_store.proofs.solving.refuted.Goals as goal
 
-pub returns-in-Ok : goal.returns-in-Ok
-returns-in-Ok c = λ budget refuting.
-    let is : c.in_ok-new-in-Ok.field-0 ≡ Unsat (record { key = c.args.key.now; tree = c.args.tree }) = search rules in
+pub returns : goal.returns
+returns c = λ budget refuting.
+    let tree : PlainTree = record { nodes = c.args.nodes.now; terms = c.args.terms.now } in
+    let shrunk : IsShrunk c.args.key.now tree c.in_ok-core.core = c.in_ok-core.ensures {u = tt} in
+    let is : c.in_ok-new.field-0 ≡ c.in_ok-core.core = c.in_ok-new.ensures {u = tt} in
     subst (IsEntryFor budget c.args.key.now) (sym is)
-    (entry_by_tree c.entries_decide_their_keys.ensures budget c.args.key.now c.args.tree c.keeps_limits.ensures refuting)
+    (entry_by_core budget c.args.key.now tree c.in_ok-core.core shrunk c.key.ensures.checked
+    (c.shrunk_entries_decide.ensures c.args.key.now tree c.in_ok-core.core shrunk) refuting)

@@ -1,0 +1,12 @@
+mod ReadingPlaces
+mod ReadingLeaves
+mod ReadingNodes
+mod ReadingTrees
+mod BoundsLeft
+mod Worked
+mod WithoutLemmas
+mod SufficesLemmas
+mod TriedLemmas
+mod ChosenLemmas
+mod NumberLemmas
+mod CoreExists
