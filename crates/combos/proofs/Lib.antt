@@ -1,4 +1,5 @@
 mod CornerLemmas
 mod PairLemmas
+mod UnitLemmas
 mod WorthLemmas
 mod Worked

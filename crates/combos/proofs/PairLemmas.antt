@@ -1,12 +1,11 @@
 -- Sums of two terms: what they are worth at the corner, that their order says nothing, and that those are tried which
 -- can close a box.
-use Rattle.std.proofs.Common.{◌≡◌, ◌⊎◌, inl, inr, ⊎_elim, ℕ, ◌<◌, ℤ, pos, negsuc, ◌+ℤ◌, ◌-ℤ◌, ◌<ℤ◌, int_lt, true}
+use Rattle.std.proofs.Common.{◌≡◌, ◌⊎◌, inl, inr, ⊎_elim, ℕ, ◌<◌, ℤ, pos, negsuc, ◌+ℤ◌, ◌-ℤ◌, ◌≤ℤ◌, ◌<ℤ◌, int_lt, true}
 use Rattle.std.proofs.Common.{false, Bool, Option, Some, None, List, [], ◌∷◌, map, refl, ap, sym, ◌∙◌, subst}
 use Rattle.std.proofs.Common.{arith}
 use Rattle.std.specs.Option.{option_map, option_and_then, option_map_or}
 use Rattle.std.proofs.lemmas.Bool.{or_cases, both_ways, false_from_ne_true, and_from}
 use Rattle.std.proofs.lemmas.Int.{ints, by_lt_z}
-use Rattle.lin_model.specs.Integers.{Decides-int_lt}
 use Rattle.lin_model.specs.declared.form.FormTerm.{FormTerm}
 use Rattle.lin_model.specs.KeyAtom.{PlainKeyAtom}
 use Rattle.lin_model.specs.Key.{IsKey}
@@ -18,10 +17,9 @@ use Rattle.refutation.specs.Glance.{SomePairCloses}
 use Rattle.refutation.specs.Laws.{worth, CombinationsArePositive}
 use Rattle.refutation.specs.Leaf.{Multiple, multiple_of, summed_coefficient}
 use Rattle.refutation.specs.Leaf.{summed_constant, summed_form, is_positive_sum, combo_closes, PlainLeaf, combo, closes, is_unit, is_sum_of_two}
-use Rattle.combos.specs.declared.corner.Worth.{Worth}
-use Rattle.combos.specs.AtCorners.{plus, is_positive, IsWorth}
+use Rattle.combos.specs.AtCorners.{IsNoneOr, BothHold, IsOnlyFailing}
 use Rattle.combos.specs.Corner.{corner, worth_of, corner_value}
-use Rattle.combos.specs.Tried.{NeitherCloses, NoneIfFailing, NoPairFrom, ClosesWith, IsClosingPair}
+use Rattle.combos.specs.Tried.{NeitherCloses, NoneCloses, NoneIfFailing, NoPairFrom, ClosesWith, IsClosingPair}
 use Rattle.combos.proofs.CornerLemmas.{corner-within}
 
 -- the multiples of two terms
@@ -163,62 +161,43 @@ is_pair key box t u leaf same unit with' = record {
       (λ e. ap is_sum_of_two e ∙ and_from (is_unit u) (is_unit t) with'.unit unit) same;
 }
 
-positive : (w : Worth) → pos 0 <ℤ w.lowest → pos 0 <ℤ w.highest → is_positive w ≡ true
-positive w low high =
-    and_from (int_lt (pos 0) w.lowest) (int_lt (pos 0) w.highest) ((Decides-int_lt (pos 0) w.lowest).1 low)
-    ((Decides-int_lt (pos 0) w.highest).1 high)
-
--- where both together aren't worth more than 0 at some corner
-pub too_little : (key : List PlainKeyAtom) (box : PlainBox) (t u : LeafTerm) (w v : Worth) → CombinationsArePositive
-    → IsKey key → AreBounds box.bounds → is_empty box.bounds ≡ false → IsWorth key box t w → IsWorth key box u v
-    → is_positive (plus w v) ≡ false → combo_closes key box (t ∷ u ∷ []) ≡ false
-too_little key box t u w v law is are full first second little =
+-- where both together aren't worth more than 0 at a corner
+pub too_little : (key : List PlainKeyAtom) (box : PlainBox) (highest : Bool) (t u : LeafTerm) (a b : ℤ)
+    → CombinationsArePositive → IsKey key → AreBounds box.bounds → is_empty box.bounds ≡ false
+    → IsNoneOr (corner_value key box highest t) a → IsNoneOr (corner_value key box highest u) b
+    → (a +ℤ b) ≤ℤ pos 0 → combo_closes key box (t ∷ u ∷ []) ≡ false
+too_little key box highest t u a b law is are full first second little =
     false_from_ne_true (combo_closes key box (t ∷ u ∷ [])) (λ closed.
-    let low = are_worth key box false t u law is are full closed in
-    let high = are_worth key box true t u law is are full closed in
-    let one = first.lowest low.first low.is_first in
-    let two = second.lowest low.second low.is_second in
-    let three = first.highest high.first high.is_first in
-    let four = second.highest high.second high.is_second in
-    let above : pos 0 <ℤ (w.lowest +ℤ v.lowest) = omega (arith, ints, low.positive, one, two) in
-    let above' : pos 0 <ℤ (w.highest +ℤ v.highest) = omega (arith, ints, high.positive, three, four) in
-    both_ways (is_positive (plus w v)) little (positive (plus w v) above above'))
+    let two = are_worth key box highest t u law is are full closed in
+    let one = first two.first two.is_first in
+    let other = second two.second two.is_second in
+    absurd (omega (arith, ints, two.positive, little, one, other)))
 
--- ---- one term
+-- where the second stands for nothing
+pub without_second : (key : List PlainKeyAtom) (box : PlainBox) (t u : LeafTerm) → CombinationsArePositive → IsKey key
+    → AreBounds box.bounds → is_empty box.bounds ≡ false → corner_value key box false u ≡ None
+    → combo_closes key box (t ∷ u ∷ []) ≡ false
+without_second key box t u law is are full none =
+    false_from_ne_true (combo_closes key box (t ∷ u ∷ [])) (λ closed.
+    let two = are_worth key box false t u law is are full closed in
+    let clash : Some two.second ≡ None = sym two.is_second ∙ none in
+    absurd (cc))
 
-record IsWorthAlone (key : List PlainKeyAtom) (box : PlainBox) (highest : Bool) (t : LeafTerm) : Type 0 where
-  value : ℤ
-  is : corner_value key box highest t ≡ Some value
-  positive : pos 0 <ℤ value
+-- at each place the one factor that fails has no pair, and the other one holds
+pub no_pair_from : (key : List PlainKeyAtom) (box : PlainBox) (place : ℕ) (term : LeafTerm)
+    → IsOnlyFailing key box place term → NoneCloses key box term → NoPairFrom key box place
+no_pair_from key box place term (inl plus) none = record {
+  plus = λ x is above. subst (NoneCloses key box) plus.0 none;
+  minus = λ x is above. absurd (omega (arith, ints, plus.1 x is, above));
+}
+no_pair_from key box place term (inr minus) none = record {
+  plus = λ x is above. absurd (omega (arith, ints, minus.1 x is, above));
+  minus = λ x is above. subst (NoneCloses key box) minus.0 none;
+}
 
-abbrev alone : Option Multiple → Option (List Multiple)
-alone o = option_and_then (λ m. option_map (λ ms. m ∷ ms) (Some [])) o
-
-alone_there : (point : List ℤ) (o : Option Multiple) (ms : List Multiple) → alone o ≡ Some ms → pos 0 <ℤ worth ms point
-    → (x : ℤ) × (option_map (worth_of point) o ≡ Some x) × (pos 0 <ℤ x)
-alone_there point None ms is positive = absurd (cc)
-alone_there point (Some m) ms is positive =
-    let are : m ∷ [] ≡ ms = cc in
-    (worth_of point m, refl, omega (arith, ints, ap (λ (xs : List Multiple). worth xs point) are, positive))
-
-is_worth_alone : (key : List PlainKeyAtom) (box : PlainBox) (highest : Bool) (t : LeafTerm) → CombinationsArePositive
-    → IsKey key → AreBounds box.bounds → is_empty box.bounds ≡ false → combo_closes key box (t ∷ []) ≡ true
-    → IsWorthAlone key box highest t
-is_worth_alone key box highest t law is are full closed =
-    let at = law key box (t ∷ []) (corner box.bounds highest) is (corner-within box.bounds highest are full) closed in
-    let one = alone_there (corner box.bounds highest) (multiple_of key box.sides t) at.multiples at.are at.positive in
-    record { value = one.0; is = one.1; positive = one.2 }
-
--- where it isn't worth more than 0 at some corner
-pub too_little_alone : (key : List PlainKeyAtom) (box : PlainBox) (t : LeafTerm) (w : Worth) → CombinationsArePositive
-    → IsKey key → AreBounds box.bounds → is_empty box.bounds ≡ false → IsWorth key box t w → is_positive w ≡ false
-    → combo_closes key box (t ∷ []) ≡ false
-too_little_alone key box t w law is are full weighed little =
-    false_from_ne_true (combo_closes key box (t ∷ [])) (λ closed.
-    let low = is_worth_alone key box false t law is are full closed in
-    let high = is_worth_alone key box true t law is are full closed in
-    let one = weighed.lowest low.value low.is in
-    let two = weighed.highest high.value high.is in
-    let above : pos 0 <ℤ w.lowest = omega (arith, ints, low.positive, one) in
-    let above' : pos 0 <ℤ w.highest = omega (arith, ints, high.positive, two) in
-    both_ways (is_positive w) little (positive w above above'))
+pub none_from : (key : List PlainKeyAtom) (box : PlainBox) (place : ℕ) → BothHold key box place
+    → NoPairFrom key box place
+none_from key box place both = record {
+  plus = λ x is above. absurd (omega (arith, ints, both.plus x is, above));
+  minus = λ x is above. absurd (omega (arith, ints, both.minus x is, above));
+}

@@ -1,10 +1,11 @@
 -- What an atom or side is worth by the factors 1 and -1.
-use Rattle.std.proofs.Common.{◌≡◌, ◌⊎◌, ⊎_elim, ℕ, ◌-◌, ◌<◌, ◌≤◌, ℤ, pos, negsuc, neg_ℤ, ◌-ℤ◌, ◌*ℤ◌, Bool, true, false}
-use Rattle.std.proofs.Common.{◌+◌, cond, Option, Some, None, List, [], ◌∷◌, ◌++◌, length, refl, ap, sym, ◌∙◌, subst, arith}
+use Rattle.std.proofs.Common.{◌≡◌, ◌⊎◌, ⊎_elim, ℕ, ◌-◌, ◌<◌, ◌≤◌, ℤ, pos, negsuc, neg_ℤ, ◌-ℤ◌, ◌*ℤ◌, ◌≤ℤ◌, Bool, true, false}
+use Rattle.std.proofs.Common.{◌+◌, ◌^◌, unsigned_abs, FitsSigned, to_z, of_z, rules, cond, Option, Some, None, List, [], ◌∷◌, ◌++◌, length, refl, ap, sym, ◌∙◌, subst, arith}
 use Rattle.std.specs.Prelude.{slice_get, slice_index_or}
 use Rattle.std.specs.Option.{option_map, option_and_then, option_map_or}
-use Rattle.std.proofs.lemmas.Bool.{both_ways, cases_lt, lt-ltb, le-ltb}
-use Rattle.std.proofs.lemmas.Int.{ints}
+use Rattle.std.proofs.lemmas.Bool.{both_ways, cases_lt, cases_Bool, lt-ltb, le-ltb}
+use Rattle.std.specs.Int.{w128}
+use Rattle.std.proofs.lemmas.Int.{ints, to_z-of_z}
 use Rattle.std.proofs.lemmas.List.{length_push}
 use Rattle.std.proofs.Math.ListN.{get_or-append}
 use Rattle.std.proofs.Math.Seq.{get_or-append_seam}
@@ -15,15 +16,16 @@ use Rattle.lin_model.specs.declared.op.Op.TheVariants.{Le, Ge, Eq, Ne}
 use Rattle.lin_model.specs.Form.{form_value}
 use Rattle.lin_model.specs.Lists.{below_or_last}
 use Rattle.lin_model.specs.KeyAtom.{PlainKeyAtom}
+use Rattle.refutation.specs.declared.leaf.LeafTerm.{LeafTerm}
 use Rattle.refutation.specs.declared.leaf.On.TheVariants.{Atom as OnAtom, Side as OnSide}
 use Rattle.refutation.specs.declared.side.Side.{Side}
 use Rattle.refutation.specs.Box.{PlainBox, side_atom, beside}
 use Rattle.refutation.specs.Glance.{term_at, on_place}
-use Rattle.refutation.specs.Leaf.{weighted, named}
+use Rattle.refutation.specs.Leaf.{weighted, named, is_unit}
 use Rattle.combos.specs.declared.corner.Worth.{Worth}
 use Rattle.combos.specs.declared.worths.Worths.{Worths}
 use Rattle.combos.specs.Corner.{corner, worth_of, corner_value}
-use Rattle.combos.specs.AtCorners.{negated, is_eq_op, is_equation, IsWorth, IsSmall, kept_at, AreWorths}
+use Rattle.combos.specs.AtCorners.{negated, is_eq_op, is_equation, IsNoneOr, IsWorth, IsSmall, kept_at, AreWorths, HoldsThere, IsWeighed}
 
 -- ---- by the factor 1
 
@@ -150,21 +152,37 @@ other-unlawful key box place highest h =
     (λ le. ap (λ (o : Option PlainKeyAtom). worth_by point o (negsuc 0)) (place-side key box.sides place le)
     ∙ side_unlawful point key (slice_get box.sides (place - length key))) (cases_lt place (length key))
 
+pub negated-value : (key : List PlainKeyAtom) (box : PlainBox) (place : ℕ) (highest : Bool) (a : ℤ)
+    → is_equation key place ≡ true → IsNoneOr (corner_value key box highest (term_at key place (pos 1))) a
+    → IsNoneOr (corner_value key box highest (term_at key place (negsuc 0))) (neg_ℤ a)
+negated-value key box place highest a h is = λ x same.
+    let twice = is (neg_ℤ x) (equation-negative key box place highest x h same) in omega (arith, ints, twice)
+
 pub negated-worth : (key : List PlainKeyAtom) (box : PlainBox) (place : ℕ) (w : Worth) → is_equation key place ≡ true
     → IsWorth key box (term_at key place (pos 1)) w → IsWorth key box (term_at key place (negsuc 0)) (negated w)
 negated-worth key box place w h is = record {
-  lowest = λ x same. let twice = is.lowest (neg_ℤ x) (equation-negative key box place false x h same) in
-      omega (arith, ints, twice);
-  highest = λ x same. let twice = is.highest (neg_ℤ x) (equation-negative key box place true x h same) in
-      omega (arith, ints, twice);
+  lowest = negated-value key box place false w.lowest h is.lowest;
+  highest = negated-value key box place true w.highest h is.highest;
 }
 
-pub unlawful-worth : (key : List PlainKeyAtom) (box : PlainBox) (place : ℕ) (w : Worth) → is_equation key place ≡ false
-    → IsWorth key box (term_at key place (negsuc 0)) w
-unlawful-worth key box place w h = record {
-  lowest = λ x same. let none = other-unlawful key box place false h in absurd (cc);
-  highest = λ x same. let none = other-unlawful key box place true h in absurd (cc);
-}
+-- by the other factor it is worth 0 or less where it isn't by this one
+pub equation-holds : (key : List PlainKeyAtom) (box : PlainBox) (place : ℕ) (a : ℤ) → is_equation key place ≡ true
+    → IsNoneOr (corner_value key box false (term_at key place (pos 1))) a → pos 0 ≤ℤ a
+    → HoldsThere key box (term_at key place (negsuc 0))
+equation-holds key box place a h is above = λ x same.
+    let twice = is (neg_ℤ x) (equation-negative key box place false x h same) in
+    omega (arith, ints, twice, above)
+
+pub other-holds : (key : List PlainKeyAtom) (box : PlainBox) (place : ℕ) → is_equation key place ≡ false
+    → HoldsThere key box (term_at key place (negsuc 0))
+other-holds key box place h = λ x same. let none = other-unlawful key box place false h in absurd (cc)
+
+pub minus-holds : (key : List PlainKeyAtom) (box : PlainBox) (place : ℕ) (a : ℤ)
+    → IsNoneOr (corner_value key box false (term_at key place (pos 1))) a → pos 0 ≤ℤ a
+    → HoldsThere key box (term_at key place (negsuc 0))
+minus-holds key box place a is above =
+    ⊎_elim (λ yes'. equation-holds key box place a yes' is above) (λ no'. other-holds key box place no')
+    (cases_Bool (is_equation key place))
 
 -- ---- what is kept
 
@@ -223,3 +241,24 @@ one_more key box old new n w are len low high worth small = record {
         (last old.lowest.items new.lowest.items n w.lowest len low place end)
         (last old.highest.items new.highest.items n w.highest (sym are.same ∙ len) high place end))) here))
         (below_or_last place n (omega (arith, lt, length_low, len)))
+
+-- what was kept of a place, as it is read
+pub read-kept : (xs ys : List ℤ) (place : ℕ) (x : ℤ) → ys ≡ xs → x ≡ slice_index_or xs place (pos 0)
+    → unsigned_abs (slice_index_or xs place (pos 0)) ≤ 2 ^ 100
+    → x ≡ to_z w128 (of_z w128 (slice_index_or ys place (pos 0)))
+read-kept xs ys place x same is small =
+    let read = ap (λ (zs : List ℤ). slice_index_or zs place (pos 0)) same in
+    let fits : FitsSigned w128 (slice_index_or xs place (pos 0)) = search rules in
+    is ∙ sym (to_z-of_z w128 (slice_index_or xs place (pos 0)) fits)
+    ∙ ap (λ (n : ℤ). to_z w128 (of_z w128 n)) (sym read)
+
+-- a term and its worth, as they were made
+pub is_weighed : (key : List PlainKeyAtom) (box : PlainBox) (t t' : LeafTerm) (w w' : Worth) → t' ≡ t → w' ≡ w
+    → is_unit t ≡ true → unsigned_abs t.factor ≡ 1 → IsWorth key box t w → IsSmall w'
+    → IsWeighed key box (record { term = t'; worth = w' })
+is_weighed key box t t' w w' term worth unit size is small = record {
+  factor = ap is_unit term ∙ unit;
+  size = ap (λ (u : LeafTerm). unsigned_abs u.factor) term ∙ size;
+  worth = subst (λ (u : LeafTerm). IsWorth key box u w') (sym term) (subst (IsWorth key box t) (sym worth) is);
+  small = small;
+}

@@ -1,7 +1,7 @@
 //! What atoms and sides are worth at the lowest corner of a box and at its highest: each variable at its lower side, or
 //! each at its upper side; where that side is missing at the other one, and at 0 where both are.
 
-ghost use Rattle.std.specs.Prelude.{◌≡◌, ◌+◌, ◌^◌, ◌<◌, ◌≤◌, ◌-ℤ◌, ◌*ℤ◌, length, unsigned_abs, pos, Some, ℤ, false, true};
+ghost use Rattle.std.specs.Prelude.{◌≡◌, ◌+◌, ◌^◌, ◌<◌, ◌≤◌, ◌-ℤ◌, ◌*ℤ◌, length, unsigned_abs, pos, false, true};
 ghost use Rattle.std.specs.Option.{unwrap_or, option_map};
 ghost use Rattle.lin_model.specs.Form.{form_value};
 ghost use Rattle.lin_model.specs.KeyAtom.{IsCanonicalForm};
@@ -10,7 +10,7 @@ ghost use Rattle.refutation.specs.Glance.{place_count, term_at};
 ghost use Rattle.refutation.specs.Leaf.{weighted};
 ghost use Rattle.combos.specs.Corner.{corner, corner_side, worth_of};
 ghost use Rattle.combos.specs.Found.{box_of};
-ghost use Rattle.combos.specs.AtCorners.{plus, negated, is_positive, IsWorth, IsSmall};
+ghost use Rattle.combos.specs.AtCorners.{negated, IsNoneOr, IsWorth, IsSmall};
 
 use crate::term::term_at;
 use lin_model::{FormTerm, Key, Op};
@@ -32,18 +32,6 @@ impl Worth {
         highest: -(1 << 100),
     };
 
-    /// The sum of both.
-    pub fn plus(self, other: Worth) -> Worth
-        requires one { IsSmall self }
-        requires other { IsSmall other }
-        ensures { result ≡ plus self other }
-    {
-        Worth {
-            lowest: self.lowest + other.lowest,
-            highest: self.highest + other.highest,
-        }
-    }
-
     /// The negative.
     pub fn negated(self) -> Worth
         requires { IsSmall self }
@@ -54,13 +42,6 @@ impl Worth {
             lowest: -self.lowest,
             highest: -self.highest,
         }
-    }
-
-    /// Whether it is more than 0 at both corners.
-    pub fn is_positive(self) -> bool
-        ensures { result ≡ is_positive self }
-    {
-        self.lowest > 0 && self.highest > 0
     }
 }
 
@@ -82,16 +63,16 @@ pub fn worth_at(key: &Key, bounds: &Bounds, sides: &[Side], place: usize) -> Wor
 fn worth_of(comparison: Comparison<'_>, bounds: &Bounds) -> Worth
     requires form { IsCanonicalForm comparison.form.now }
     requires constant { unsigned_abs comparison.constant ≤ 2 ^ 50 }
-    ensures lowest { (x : ℤ) → option_map (worth_of (corner bounds.now false)) (weighted (record {
+    ensures lowest { IsNoneOr (option_map (worth_of (corner bounds.now false)) (weighted (record {
       form = comparison.entry.form.now;
       op = comparison.entry.op;
       constant = comparison.entry.constant;
-    }) (pos 1)) ≡ Some x → x ≡ result.lowest }
-    ensures highest { (x : ℤ) → option_map (worth_of (corner bounds.now true)) (weighted (record {
+    }) (pos 1))) result.lowest }
+    ensures highest { IsNoneOr (option_map (worth_of (corner bounds.now true)) (weighted (record {
       form = comparison.entry.form.now;
       op = comparison.entry.op;
       constant = comparison.entry.constant;
-    }) (pos 1)) ≡ Some x → x ≡ result.highest }
+    }) (pos 1))) result.highest }
     ensures small { IsSmall result }
 {
     match comparison.op {

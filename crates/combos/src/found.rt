@@ -2,6 +2,7 @@
 
 ghost use Rattle.std.specs.Prelude.{◌≡◌, ◌≢◌, ◌≤◌, None, false, IfSome, length};
 ghost use Rattle.refutation.specs.Leaf.{Closes, leaf_of, empty};
+ghost use Rattle.combos.specs.AtCorners.{AreWorths};
 ghost use Rattle.combos.specs.Found.{AreNeSides, box_of, StaysOpen, IsPlainest};
 
 use crate::elimination::eliminate;
@@ -35,7 +36,7 @@ pub fn find_combo(key: &Key, bounds: &Bounds, sides: &[Side]) -> Option<Leaf>
     if let Some(leaf) = closing_pair(key, bounds, sides, &worths) {
         return Some(leaf);
     }
-    if let Some(leaf) = closing_combination(key, bounds, sides) {
+    if let Some(leaf) = closing_combination(key, bounds, sides, &worths) {
         return Some(leaf);
     }
     match closing_fixed(key, bounds) {
@@ -45,11 +46,12 @@ pub fn find_combo(key: &Key, bounds: &Bounds, sides: &[Side]) -> Option<Leaf>
 }
 
 /// The combination that elimination comes to, if it closes the box.
-fn closing_combination(key: &Key, bounds: &Bounds, sides: &[Side]) -> Option<Leaf>
-    requires { length sides.now ≤ 65536 }
+fn closing_combination(key: &Key, bounds: &Bounds, sides: &[Side], worths: &Worths) -> Option<Leaf>
+    requires few { length sides.now ≤ 65536 }
+    requires worths { AreWorths key.now (box_of bounds.now sides.now) worths.now }
     ensures closes { IfSome result (λ leaf. Closes key.now (box_of bounds.now sides.now) (leaf_of leaf)) }
 {
-    match eliminate(key, bounds, sides) {
+    match eliminate(key, bounds, sides, worths) {
         None => None,
         Some(terms) => {
             let leaf = Leaf::Combo(terms);

@@ -8,9 +8,9 @@ use refutation::LeafTerm;
 
 impl Tableau {
     /// The first column that could bring a failing row nearer to where it holds.
-    pub fn entering(&self, failing: &Failing) -> Option<usize> {
+    pub fn entering(&self, failing: &Failing, row: &Row) -> Option<usize> {
         for column in 0..self.used() {
-            let coef = failing.row.coef(column);
+            let coef = row.coef(column);
             let stands = self.column(column);
             let falls = failing.too_high == (coef > 0);
             if coef != 0 && (if falls { stands.falls } else { stands.rises }) {
@@ -20,16 +20,17 @@ impl Tableau {
         None
     }
 
-    /// Puts the entering column in the place of what fails, which from then on is a column that stands where it holds.
-    pub fn pivot(&mut self, failing: &Failing, entering: usize) -> Option<()> {
-        let sign = failing.row.coef(entering).signum();
+    /// Puts the entering column in the place of what fails, which from then on is a column that stands where it holds. Its
+    /// row becomes that of the entering column.
+    pub fn pivot(&mut self, failing: &Failing, row: &mut Row, entering: usize) -> Option<()> {
+        let sign = row.coef(entering).signum();
         let leaving = self.leaving(failing, entering)?;
-        let mut pivot = Row::of(0);
-        pivot.add(sign, &failing.row, self.used())?;
-        let scale = pivot.coef(entering);
-        self.take_out(entering, leaving, sign, &pivot)?;
-        let mut row = Row::of(0);
-        row.add(-1, &pivot, self.used())?;
+        if sign < 0 {
+            row.negate(self.used())?;
+        }
+        let scale = row.coef(entering);
+        self.take_out(entering, leaving, sign, row)?;
+        row.negate(self.used())?;
         row.set(entering, 0);
         row.set(leaving, self.denominator.checked_mul(sign)?);
         self.replace(failing, entering, row)?;
@@ -41,13 +42,13 @@ impl Tableau {
 
     /// The combination of a failing row that no column can bring nearer: the comparison that fails and those held
     /// tight, each by its weight in the row, where the denominator is that of what fails.
-    pub fn combination(&self, failing: &Failing) -> Option<ArrayVec<LeafTerm, 8>> {
+    pub fn combination(&self, failing: &Failing, row: &Row) -> Option<ArrayVec<LeafTerm, 8>> {
         let sign = if failing.too_high { 1 } else { -1 };
         let mut terms = ArrayVec::new();
         let weight = self.denominator.checked_mul(sign)?;
         add_weighted(&mut terms, failing.stands, weight)?;
         for column in self.width..self.used() {
-            let weight = failing.row.coef(column).checked_mul(-sign)?;
+            let weight = row.coef(column).checked_mul(-sign)?;
             add_weighted(&mut terms, self.column(column), weight)?;
         }
         Some(terms)
@@ -88,10 +89,10 @@ impl Tableau {
 
     /// Puts the row of the entering variable in the place of what fails, or in a free one. A tight comparison needs no
     /// row where it isn't tight any more.
-    fn replace(&mut self, failing: &Failing, entering: usize, row: Row) -> Option<()> {
+    fn replace(&mut self, failing: &Failing, entering: usize, row: &Row) -> Option<()> {
         let entered = if entering < self.width {
             let var = u8::try_from(entering).ok()?;
-            Some(Eliminated { var, row })
+            Some(Eliminated { var, row: *row })
         } else {
             None
         };

@@ -2,6 +2,8 @@
 
 ghost use Rattle.std.specs.Prelude.{◌≡◌, ◌*ℤ◌, ◌^◌, ◌≤◌, unsigned_abs};
 
+use crate::column::Column;
+
 /// How many comparisons are held tight at most: with one more that fails they make a combination of eight.
 pub const MAX_TIGHT: usize = 7;
 
@@ -58,6 +60,15 @@ impl Row {
         Some(())
     }
 
+    /// Becomes its negative.
+    pub fn negate(&mut self, used: usize) -> Option<()> {
+        self.constant = self.constant.checked_neg()?;
+        for column in 0..used.min(MAX_COLUMNS) {
+            self.coefs[column] = self.coefs[column].checked_neg()?;
+        }
+        Some(())
+    }
+
     /// Takes out the column of which this row has `factor`, by the row `pivot` that has `scale` of it: it becomes
     /// `(scale * row - factor * pivot) / denominator`. The quotient has no rest where both are rows of one tableau.
     pub fn take_out(
@@ -68,12 +79,28 @@ impl Row {
         denominator: i64,
         used: usize,
     ) -> Option<()> {
+        if factor == 0 && scale == denominator {
+            return Some(());
+        }
         self.constant = reduced(scale, self.constant, factor, pivot.constant, denominator)?;
         for column in 0..used.min(MAX_COLUMNS) {
             let coef = self.coefs[column];
             self.coefs[column] = reduced(scale, coef, factor, pivot.coefs[column], denominator)?;
         }
         Some(())
+    }
+
+    /// The sum of the constant and of each coefficient times the value of its column. A value is a side of a variable, of
+    /// 34 bits, so the sum doesn't wrap.
+    pub fn value(&self, columns: &[Column; MAX_COLUMNS], used: usize) -> Option<i64> {
+        let mut sum = i128::from(self.constant);
+        for column in 0..used.min(MAX_COLUMNS) {
+            let coef = self.coefs[column];
+            if coef != 0 {
+                sum = sum.wrapping_add(product(coef, columns[column].value));
+            }
+        }
+        i64::try_from(sum).ok()
     }
 }
 
@@ -84,13 +111,18 @@ fn plus(a: i64, multiple: i64, b: i64) -> Option<i64> {
 
 /// `(scale * a - factor * b) / denominator`.
 fn reduced(scale: i64, a: i64, factor: i64, b: i64, denominator: i64) -> Option<i64> {
+    if a == 0 && (factor == 0 || b == 0) {
+        return Some(0);
+    }
     let wide = product(scale, a).checked_sub(product(factor, b))?;
-    let quotient = if denominator == 1 {
-        wide
-    } else {
-        wide.checked_div(i128::from(denominator))?
-    };
-    i64::try_from(quotient).ok()
+    if denominator == 1 {
+        return i64::try_from(wide).ok();
+    }
+    // A division of 128 bits costs many times one of 64.
+    match i64::try_from(wide) {
+        Ok(narrow) => narrow.checked_div(denominator),
+        Err(_) => i64::try_from(wide.checked_div(i128::from(denominator))?).ok(),
+    }
 }
 
 /// A product in 128 bits.

@@ -18,11 +18,9 @@ pub struct Eliminated {
     pub row: Row,
 }
 
-/// What fails where the columns stand, as a row that is too high or too low.
-#[derive(Drop)]
+/// What fails where the columns stand: its row is too high or too low.
+#[derive(Clone, Copy)]
 pub struct Failing {
-    /// Its row.
-    pub row: Row,
     /// Whether it is too high.
     pub too_high: bool,
     /// Where it will stand as a column.
@@ -93,8 +91,13 @@ impl Tableau {
         }
     }
 
-    /// The eliminated variable at this place of the list, if it is beyond a side.
-    pub fn failing_variable(&self, place: usize, bounds: &Bounds) -> Option<Failing> {
+    /// The eliminated variable at this place of the list, if it is beyond a side, and its row in `row`.
+    pub fn failing_variable(
+        &self,
+        place: usize,
+        bounds: &Bounds,
+        row: &mut Row,
+    ) -> Option<Failing> {
         let eliminated = self.rows.get(place)?.as_ref()?;
         let (lower, upper) = both_sides(bounds, eliminated.var)?;
         let value = i128::from(self.value(eliminated.var));
@@ -102,17 +105,23 @@ impl Tableau {
         if !too_high && value >= product(self.denominator, lower) {
             return None;
         }
+        *row = eliminated.row;
         Some(Failing {
-            row: eliminated.row,
             too_high,
             stands: Column::at_side(lower, upper, too_high),
             eliminated: Some((place, eliminated.var)),
         })
     }
 
-    /// The comparison that a term names, if it fails.
-    pub fn failing_comparison(&self, on: On, comparison: Comparison<'_>) -> Option<Failing> {
-        let above = self.above(comparison)?;
+    /// The comparison that a term names, if it fails, and its row in `row`.
+    #[inline]
+    pub fn failing_comparison(
+        &self,
+        on: On,
+        comparison: Comparison<'_>,
+        row: &mut Row,
+    ) -> Option<Failing> {
+        let above = self.above(comparison);
         let fails = match comparison.op {
             Op::Le => above > 0,
             Op::Ge => above < 0,
@@ -122,40 +131,35 @@ impl Tableau {
         if !fails {
             return None;
         }
+        self.write_row(comparison, row)?;
         Some(Failing {
-            row: self.row_of(comparison)?,
             too_high: above > 0,
             stands: Column::held(on, comparison.op),
             eliminated: None,
         })
     }
 
-    /// Works out the values of the variables.
+    /// Works out the values of the variables: those of the columns, and of the eliminated ones by their rows.
     pub fn settle(&mut self) -> Option<()> {
         for var in 0..self.width.min(64) {
-            self.values[var] = self.settled(var as u8)?;
+            self.values[var] = self.columns[var].value.checked_mul(self.denominator)?;
+        }
+        self.settle_eliminated()
+    }
+
+    /// Works out the values of the eliminated variables.
+    fn settle_eliminated(&mut self) -> Option<()> {
+        let used = self.used();
+        for place in 0..MAX_TIGHT {
+            if let Some(eliminated) = &self.rows[place] {
+                let value = eliminated.row.value(&self.columns, used)?;
+                let var = usize::from(eliminated.var);
+                if var < 64 {
+                    self.values[var] = value;
+                }
+            }
         }
         Some(())
-    }
-
-    /// The value of a variable where the columns stand, times the denominator.
-    fn settled(&self, var: u8) -> Option<i64> {
-        match self.row(var) {
-            Some(row) => self.value_of(row),
-            None => self
-                .column(usize::from(var))
-                .value
-                .checked_mul(self.denominator),
-        }
-    }
-
-    /// The value of a row where the columns stand.
-    fn value_of(&self, row: &Row) -> Option<i64> {
-        let mut sum = i128::from(row.constant);
-        for column in 0..self.used() {
-            sum = sum.checked_add(product(row.coef(column), self.column(column).value))?;
-        }
-        i64::try_from(sum).ok()
     }
 
     /// The value of a variable as it was worked out.
@@ -179,19 +183,21 @@ impl Tableau {
         None
     }
 
-    /// How far a comparison's form is above its constant, times the denominator.
-    fn above(&self, comparison: Comparison<'_>) -> Option<i128> {
-        let mut sum = product(self.denominator, comparison.constant).checked_neg()?;
+    /// How far a comparison's form is above its constant, times the denominator. Coefficients have 40 bits and constants
+    /// 50, so the sum doesn't wrap.
+    fn above(&self, comparison: Comparison<'_>) -> i128 {
+        let mut sum = product(self.denominator, comparison.constant).wrapping_neg();
         for term in comparison.form.terms() {
-            sum = sum.checked_add(product(term.coef, self.value(term.var)))?;
+            sum = sum.wrapping_add(product(term.coef, self.value(term.var)));
         }
-        Some(sum)
+        sum
     }
 
-    /// The row of a comparison's form less its constant.
-    fn row_of(&self, comparison: Comparison<'_>) -> Option<Row> {
+    /// Writes the row of a comparison's form less its constant.
+    #[inline(never)]
+    fn write_row(&self, comparison: Comparison<'_>, row: &mut Row) -> Option<()> {
         let constant = self.denominator.checked_mul(comparison.constant)?;
-        let mut row = Row::of(constant.checked_neg()?);
+        *row = Row::of(constant.checked_neg()?);
         for term in comparison.form.terms() {
             match self.row(term.var) {
                 Some(by) => row.add(term.coef, by, self.used())?,
@@ -201,6 +207,6 @@ impl Tableau {
                 }
             }
         }
-        Some(row)
+        Some(())
     }
 }

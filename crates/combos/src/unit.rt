@@ -1,7 +1,7 @@
 //! One atom or side that closes a box by itself. Such a one is positive at each point within the bounds, and so at the
 //! lowest and at the highest corner: only where it is worth more than 0 at both it is tested.
 
-ghost use Rattle.std.specs.Prelude.{◌≡◌, ◌+◌, ◌<◌, ◌≤◌, length, MatchOption, true, false, [], ◌∷◌};
+ghost use Rattle.std.specs.Prelude.{◌≡◌, ◌<◌, ◌≤◌, length, MatchOption, false, [], ◌∷◌};
 ghost use Rattle.refutation.specs.Bounds.{is_empty};
 ghost use Rattle.refutation.specs.Glance.{SomeUnitCloses, unit_closes, place_count};
 ghost use Rattle.refutation.specs.Leaf.{leaf_of, combo_closes};
@@ -45,15 +45,19 @@ fn unit_at(
     ensures { MatchOption result (unit_closes key.now (box_of bounds.now sides.now) place ≡ false)
         (λ leaf. IsClosingUnit key.now (box_of bounds.now sides.now) (leaf_of leaf)) }
 {
-    let plus = worths.plus(key, bounds, sides, place);
-    if closes_box(key, bounds, sides, plus) {
-        return Some(leaf_of_one(plus.term));
+    combinations_are_positive();
+    key.keeps_limits();
+    bounds.keeps_limits();
+    match worths.failing_at(key, bounds, sides, place) {
+        None => None,
+        Some(unit) => {
+            if closes_box(key, bounds, sides, unit) {
+                Some(leaf_of_one(unit.term))
+            } else {
+                None
+            }
+        }
     }
-    let minus = worths.minus(key, bounds, sides, place);
-    if closes_box(key, bounds, sides, minus) {
-        return Some(leaf_of_one(minus.term));
-    }
-    None
 }
 
 /// Whether the unit closes the box by itself.
@@ -65,7 +69,7 @@ fn closes_box(key: &Key, bounds: &Bounds, sides: &[Side], unit: UnitTerm) -> boo
     combinations_are_positive();
     key.keeps_limits();
     bounds.keeps_limits();
-    if unit.worth.is_positive() {
+    if unit.worth.highest > 0 {
         closes_alone(key, bounds, sides, unit.term)
     } else {
         false

@@ -1,10 +1,12 @@
 //! What all atoms and sides of a box are worth at its corners, worked out once and read by their places in the row.
 
-ghost use Rattle.std.specs.Prelude.{◌≡◌, ◌<◌, ◌≤◌, ◌++◌, [], ◌∷◌, length, pos, negsuc};
+ghost use Rattle.std.specs.Prelude.{◌≡◌, ◌^◌, ◌<◌, ◌≤◌, ◌++◌, [], ◌∷◌, length, min, unsigned_abs, pos, negsuc, false, true};
+ghost use Rattle.std.specs.Prelude.{MatchOption, IfSome};
 ghost use Rattle.arrayvec.specs.ArrayVec.{array_vec_len};
 ghost use Rattle.refutation.specs.Glance.{place_count, term_at};
+ghost use Rattle.combos.specs.AtCorners.{AreWorths, IsWeighed, IsWorth, IsNoneOr, IsSmall, BothHold, IsOnlyFailing, is_equation};
+ghost use Rattle.combos.specs.Corner.{corner_value};
 ghost use Rattle.combos.specs.Found.{box_of};
-ghost use Rattle.combos.specs.AtCorners.{AreWorths, IsWeighed, IsWorth, IsSmall, is_equation};
 
 use crate::corner::{Worth, worth_at};
 use crate::term::{place_count, term_at};
@@ -12,8 +14,9 @@ use arrayvec::ArrayVec;
 use lin_model::{Key, Op};
 use refutation::{Bounds, LeafTerm, Side};
 
-/// How many places are kept. What stands beyond is worked out whenever it is asked for.
-const MAX_KEPT: usize = 128;
+/// How many places are kept: both lists take less than two kilobytes, since they are cleared at each box. What stands
+/// beyond is worked out whenever it is asked for.
+const MAX_KEPT: usize = 62;
 
 /// An atom or side by the factor 1 or -1.
 #[derive(Clone, Copy)]
@@ -24,7 +27,8 @@ pub struct UnitTerm {
     pub worth: Worth,
 }
 
-/// What the atoms and sides at the first places are worth by the factor 1: at the lowest corner, and at the highest.
+/// What the atoms and sides at the first places are worth by the factor 1. Where that isn't lawful, it is so little that
+/// no sum with it is positive.
 #[derive(Drop)]
 pub struct Worths {
     /// At the lowest corner.
@@ -37,7 +41,8 @@ impl Worths {
     /// Works out what those of a box are worth.
     pub fn of(key: &Key, bounds: &Bounds, sides: &[Side]) -> Worths
         requires { length sides.now ≤ 65536 }
-        ensures { AreWorths key.now (box_of bounds.now sides.now) result }
+        ensures worths { AreWorths key.now (box_of bounds.now sides.now) result }
+        ensures kept { array_vec_len result.lowest ≡ min (place_count key.now sides.now) MAX_KEPT }
     {
         let mut worths = Worths {
             lowest: ArrayVec::new(),
@@ -60,9 +65,68 @@ impl Worths {
         self.highest.push(worth.highest);
     }
 
-    /// The atom or side at this place by the factor 1; where that isn't lawful it is worth so little that no sum with it
-    /// is positive.
-    pub fn plus(&self, key: &Key, bounds: &Bounds, sides: &[Side], place: usize) -> UnitTerm
+    /// What the atom or side at this place is worth at the lowest corner by the factor 1.
+    pub fn lowest_at(&self, key: &Key, bounds: &Bounds, sides: &[Side], place: usize) -> i128
+        requires few { length sides.now ≤ 65536 }
+        requires place { place < place_count key.now sides.now }
+        requires worths { AreWorths key.now (box_of bounds.now sides.now) self.now }
+        ensures value { IsNoneOr
+            (corner_value key.now (box_of bounds.now sides.now) false (term_at key.now place (pos 1))) result }
+        ensures size { unsigned_abs result ≤ 2 ^ 100 }
+    {
+        if place < self.lowest.len() {
+            self.lowest[place]
+        } else {
+            worth_at(key, bounds, sides, place).lowest
+        }
+    }
+
+    /// What it is worth at the highest corner by the factor 1.
+    pub fn highest_at(&self, key: &Key, bounds: &Bounds, sides: &[Side], place: usize) -> i128
+        requires few { length sides.now ≤ 65536 }
+        requires place { place < place_count key.now sides.now }
+        requires worths { AreWorths key.now (box_of bounds.now sides.now) self.now }
+        ensures value { IsNoneOr
+            (corner_value key.now (box_of bounds.now sides.now) true (term_at key.now place (pos 1))) result }
+        ensures size { unsigned_abs result ≤ 2 ^ 100 }
+    {
+        if place < self.highest.len() {
+            self.highest[place]
+        } else {
+            worth_at(key, bounds, sides, place).highest
+        }
+    }
+
+    /// The atom or side at this place by the factor by which it is worth more than 0 at the lowest corner: 1, or -1 on
+    /// `=`. None where there is no such factor; there are never two.
+    #[inline]
+    pub fn failing_at(
+        &self,
+        key: &Key,
+        bounds: &Bounds,
+        sides: &[Side],
+        place: usize,
+    ) -> Option<UnitTerm>
+        requires few { length sides.now ≤ 65536 }
+        requires place { place < place_count key.now sides.now }
+        requires worths { AreWorths key.now (box_of bounds.now sides.now) self.now }
+        ensures weighed { IfSome result (λ unit. IsWeighed key.now (box_of bounds.now sides.now) unit) }
+        ensures only { MatchOption result (BothHold key.now (box_of bounds.now sides.now) place)
+            (λ unit. IsOnlyFailing key.now (box_of bounds.now sides.now) place unit.term) }
+    {
+        let lowest = self.lowest_at(key, bounds, sides, place);
+        if lowest > 0 {
+            return Some(self.plus(key, bounds, sides, place));
+        }
+        if lowest < 0 && is_equation(key, place) {
+            return Some(self.minus(key, bounds, sides, place));
+        }
+        None
+    }
+
+    /// The atom or side at this place by the factor 1.
+    #[inline(never)]
+    fn plus(&self, key: &Key, bounds: &Bounds, sides: &[Side], place: usize) -> UnitTerm
         requires few { length sides.now ≤ 65536 }
         requires place { place < place_count key.now sides.now }
         requires worths { AreWorths key.now (box_of bounds.now sides.now) self.now }
@@ -75,17 +139,19 @@ impl Worths {
         }
     }
 
-    /// The same by the factor -1, which is lawful on `=` alone.
-    pub fn minus(&self, key: &Key, bounds: &Bounds, sides: &[Side], place: usize) -> UnitTerm
+    /// The equation at this place by the factor -1.
+    #[inline(never)]
+    fn minus(&self, key: &Key, bounds: &Bounds, sides: &[Side], place: usize) -> UnitTerm
         requires few { length sides.now ≤ 65536 }
         requires place { place < place_count key.now sides.now }
         requires worths { AreWorths key.now (box_of bounds.now sides.now) self.now }
+        requires equation { is_equation key.now place ≡ true }
         ensures term { result.term ≡ term_at key.now place (negsuc 0) }
         ensures weighed { IsWeighed key.now (box_of bounds.now sides.now) result }
     {
         UnitTerm {
             term: term_at(key, sides, place, -1),
-            worth: self.negated_at(key, bounds, sides, place),
+            worth: self.at(key, bounds, sides, place).negated(),
         }
     }
 
@@ -97,34 +163,15 @@ impl Worths {
         ensures worth { IsWorth key.now (box_of bounds.now sides.now) (term_at key.now place (pos 1)) result }
         ensures small { IsSmall result }
     {
-        if place < self.lowest.len() {
-            Worth {
-                lowest: self.lowest[place],
-                highest: self.highest[place],
-            }
-        } else {
-            worth_at(key, bounds, sides, place)
-        }
-    }
-
-    /// What it is worth by the factor -1.
-    fn negated_at(&self, key: &Key, bounds: &Bounds, sides: &[Side], place: usize) -> Worth
-        requires few { length sides.now ≤ 65536 }
-        requires place { place < place_count key.now sides.now }
-        requires worths { AreWorths key.now (box_of bounds.now sides.now) self.now }
-        ensures worth { IsWorth key.now (box_of bounds.now sides.now) (term_at key.now place (negsuc 0)) result }
-        ensures small { IsSmall result }
-    {
-        if is_equation(key, place) {
-            self.at(key, bounds, sides, place).negated()
-        } else {
-            Worth::NOTHING
+        Worth {
+            lowest: self.lowest_at(key, bounds, sides, place),
+            highest: self.highest_at(key, bounds, sides, place),
         }
     }
 }
 
 /// Whether an atom `form = c` stands at this place of the row.
-fn is_equation(key: &Key, place: usize) -> bool
+pub fn is_equation(key: &Key, place: usize) -> bool
     ensures { result ≡ is_equation key.now place }
 {
     match key.atoms().get(place) {
