@@ -12,7 +12,8 @@ use Rattle.lin_text.specs.Kinds.{rank}
 use Rattle.lin_text.specs.KeyAtomTexts.{BeginsUncanonical, StandsInAtom, StandsAmong, HasAtomFault}
 use Rattle.lin_text.specs.AtomSteps.{run}
 use Rattle.lin_text.proofs.Positions.{tokens-later}
-use Rattle.lin_text.proofs.AtomClean.{begun, no_stand}
+use Rattle.lin_text.proofs.AtomClean.{no_stand}
+use Rattle.lin_text.proofs.AtomCounts.{begun}
 use Rattle.lin_text.proofs.AtomRefused.{FirstStands}
 
 pub pieces-split : (front after : List PlainToken) (t : PlainToken)

@@ -18,7 +18,7 @@ use Rattle.lin_text.proofs.Places.{Place, item, after, size, done, next}
 use Rattle.lin_text.proofs.Passing.{At, At-next, At-start, IsRoom, not-nil, refused, sign_passed}
 use Rattle.lin_text.proofs.Outcomes.{Passes, Passes-append, Token, token_of, Gets, Gets-one, Fails, Fails-one}
 use Rattle.lin_text.proofs.Outcomes.{Fails-behind, Outcome}
-use Rattle.lin_text.proofs.Quantities.{refuse}
+use Rattle.lin_text.proofs.NamedItems.{refuse}
 use Rattle.lin_text.proofs.Sides.{IsWholeSide, side_out, right-nil, item_pieces-some}
 
 -- what was read means N of all tokens of the line; else it is the first fault

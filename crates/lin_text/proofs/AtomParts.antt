@@ -1,10 +1,9 @@
 -- What the reader does at a token of an atom, and behind a whole one.
-use Rattle.std.proofs.Common.{◌≡◌, ℕ, ◌+◌, ◌<◌, ◌≤◌, suc, Bool, true, false, cond, List, [], ◌∷◌, ◌++◌, length}
+use Rattle.std.proofs.Common.{◌≡◌, ℕ, ◌<◌, ◌≤◌, suc, Bool, true, false, cond, List, [], ◌∷◌, ◌++◌, length}
 use Rattle.std.proofs.Common.{Option, Some, None, refl, sym, ap, subst, ◌∙◌, append_assoc, arith, inl, inr, ℤ, nat_eq}
 use Rattle.std.specs.Prelude.{option_and_then, Ok, Err, ◌&&◌, slice_range}
 use Rattle.std.proofs.lemmas.Bool.{false≢true}
 use Rattle.std.proofs.lemmas.Bool.Decides.{eqb_tells}
-use Rattle.std.proofs.lemmas.List.{length_push}
 use Rattle.lin_model.specs.declared.form.FormTerm.{FormTerm}
 use Rattle.lin_model.specs.declared.op.Op.{Op}
 use Rattle.lin_text.specs.declared.atom_step.State.{State}
@@ -14,21 +13,22 @@ use Rattle.lin_text.specs.declared.class.Lexeme.{Lexeme}
 use Rattle.lin_text.specs.declared.fault.TextKind.TheVariants as kinds
 use Rattle.lin_text.specs.declared.fault.TextKind.{TextKind}
 use Rattle.lin_text.specs.declared.refusal.Fault.{Fault}
-use Rattle.lin_text.specs.Pieces.{Piece, name, number, plus, minus, times, compare, bad, line_end, PlainToken, pieces}
+use Rattle.lin_text.specs.Pieces.{Piece, name, bad, line_end, PlainToken, pieces}
 use Rattle.lin_text.specs.Pieces.{first_token, is_last, AreTokens}
 use Rattle.lin_text.specs.Classes.{class_of, shown}
 use Rattle.lin_text.specs.Faults.{begins_item}
 use Rattle.lin_text.specs.Reading.{lexeme_at, fault_at, refusal}
-use Rattle.lin_text.specs.KeyAtomTexts.{place_behind, op_of, BeginsUncanonical, HasAtomFault}
-use Rattle.lin_text.specs.AtomSteps.{key_var, named, op_step, var_by, var_at, is_item, step_or_refusal, step_at}
+use Rattle.lin_text.specs.KeyAtomTexts.{place_behind, BeginsUncanonical, HasAtomFault}
+use Rattle.lin_text.specs.AtomSteps.{key_var, var_by, var_at, is_item, step_or_refusal, step_at}
 use Rattle.lin_text.specs.AtomSteps.{next_step, var_named, next, with_term, run, IsRead}
 use Rattle.lin_text.specs.LineLaws.{IsAhead}
-use Rattle.lin_text.proofs.Positions.{tokens_total, first_token-ahead}
+use Rattle.lin_text.proofs.Positions.{tokens_total}
+use Rattle.lin_text.proofs.TokenPlaces.{first_token-ahead}
 use Rattle.lin_text.proofs.PositionLemmas.{name-text}
 use Rattle.lin_text.proofs.Outcomes.{Token, token_of}
 use Rattle.lin_text.proofs.Sides.{begins_item-class}
 use Rattle.lin_text.proofs.AtomPlaces.{run-append, IsAtomPiece, run-pieces}
-use Rattle.lin_text.proofs.AtomClean.{begun}
+use Rattle.lin_text.proofs.AtomCounts.{Fits, fits}
 use Rattle.lin_text.proofs.AtomRefused.{is_over, FirstStands, refused_next, refused_full, no_few, dies}
 use Rattle.lin_text.proofs.AtomFirst.{pieces-split, first_behind}
 
@@ -46,6 +46,7 @@ shown-var p bytes at t is = by_piece t.piece refl
 abbrev is_full : ℕ → State → Piece → Bool
 is_full n s q = nat_eq n 64 && is_item s && begins_item q
 
+-- what a token does, by its piece
 shown-step : (p : Bool) (bytes : List ℕ) (at n : ℕ) (s : State) (t : PlainToken) → t ≡ first_token p bytes at
     → step_at bytes n s (shown t) ≡ cond (is_full n s t.piece) (Err (fault_at kinds.TooManyTerms t.from))
     (step_or_refusal (next s t.piece) (shown t))
@@ -57,6 +58,7 @@ shown-step p bytes at n s t is =
     ∙ ap (λ (v : Option ℕ). cond (is_full n s t.piece) (Err (fault_at kinds.TooManyTerms t.from))
     (step_or_refusal (next_step s (class_of t.piece) v) (shown t))) (shown-var p bytes at t is)
 
+-- of three tests
 all_three : (a b c : Bool) → (a && b && c) ≡ true → (a ≡ true) × (b ≡ true) × (c ≡ true)
 all_three true true true e = (refl, refl, refl)
 all_three true true false e = absurd (false≢true e)
@@ -69,66 +71,17 @@ not_first true true false e f g = absurd (false≢true g)
 not_first true false c e f g = absurd (false≢true f)
 not_first false b c e f g = refl
 
+-- the test of the count
 count_is : (n : ℕ) → nat_eq n 64 ≡ true → n ≡ 64
 count_is n e = elim (eqb_tells n 64) [ inl is ↦ is.1 | inr other ↦ absurd (false≢true (sym other.0 ∙ e)) ]
 
 count_not : (n : ℕ) → nat_eq n 64 ≡ false → n ≡ 64 → ⊥
 count_not n e same = elim (eqb_tells n 64) [ inl is ↦ false≢true (sym e ∙ is.0) | inr other ↦ other.1 same ]
 
+-- the state of which it is told
 item_of : (s : State) → is_item s ≡ true → (b : Bool) × (s ≡ states.Item b)
 item_of (states.Item b) e = (b, refl)
 item_of _ e = absurd (false≢true e)
-
--- no more than 64 items are begun
-abbrev Fits : List FormTerm → Option Step → Type 0
-Fits terms None = Unit {0}
-Fits terms (Some s) = begun (with_term terms s.term) s.state ≤ 64
-
-fits-named : (terms : List FormTerm) (z : ℤ) (o : Option ℕ) → length terms + 1 ≤ 64 → Fits terms (named z o)
-fits-named terms z None le = tt
-fits-named terms z (Some v) le = omega (arith, le, length_push terms (record { var = v; coef = z }))
-
-fits-op : (terms : List FormTerm) (t : Option FormTerm) (o : Option Op) → length (with_term terms t) ≤ 64
-    → Fits terms (op_step t o)
-fits-op terms t None le = tt
-fits-op terms t (Some op) le = omega (arith, le)
-
-fits : (terms : List FormTerm) (s : State) (q : Piece) → begun terms s ≤ 64
-    → (length terms ≡ 64 → is_item s ≡ true → begins_item q ≡ true → ⊥) → Fits terms (next s q)
-fits terms (states.Item b) q le few = by_piece q few
-  where
-    by_piece : (p : Piece) → (length terms ≡ 64 → is_item (states.Item b) ≡ true → begins_item p ≡ true → ⊥)
-        → Fits terms (next (states.Item b) p)
-    by_piece minus room =
-        let other : length terms ≡ 64 → ⊥ = (λ e. room e refl refl) in omega (arith, le, other)
-    by_piece (number k) room =
-        let other : length terms ≡ 64 → ⊥ = (λ e. room e refl refl) in omega (arith, le, other)
-    by_piece (name x) room =
-        let other : length terms ≡ 64 → ⊥ = (λ e. room e refl refl) in
-        fits-named terms _ (key_var x) (omega (arith, le, other))
-    by_piece _ room = tt
-fits terms (states.Size b) (number k) le few = omega (arith, le)
-fits terms (states.Size b) (name x) le few = fits-named terms _ (key_var x) le
-fits terms (states.Size b) _ le few = tt
-fits terms (states.Number z) times le few = omega (arith, le)
-fits terms (states.Number z) plus le few = omega (arith, le, length_push terms (record { var = 64; coef = z }))
-fits terms (states.Number z) minus le few = omega (arith, le, length_push terms (record { var = 64; coef = z }))
-fits terms (states.Number z) (compare c) le few =
-    fits-op terms (Some (record { var = 64; coef = z })) (op_of c)
-    (omega (arith, le, length_push terms (record { var = 64; coef = z })))
-fits terms (states.Number z) _ le few = tt
-fits terms (states.Factor z) (name x) le few = fits-named terms _ (key_var x) le
-fits terms (states.Factor z) _ le few = tt
-fits terms states.Behind plus le few = omega (arith, le)
-fits terms states.Behind minus le few = omega (arith, le)
-fits terms states.Behind (compare c) le few = fits-op terms None (op_of c) (omega (arith, le))
-fits terms states.Behind _ le few = tt
-fits terms (states.Constant op) minus le few = omega (arith, le)
-fits terms (states.Constant op) (number k) le few = omega (arith, le)
-fits terms (states.Constant op) _ le few = tt
-fits terms (states.ConstantSize op) (number k) le few = omega (arith, le)
-fits terms (states.ConstantSize op) _ le few = tt
-fits terms (states.Over op z) q le few = tt
 
 -- a token that an atom may have isn't the last of its line
 not_last : (terms : List FormTerm) (s : State) (q : Piece) (st : Step) → next s q ≡ Some st → is_last q ≡ false
@@ -141,6 +94,7 @@ not_last terms s q st e =
     by_piece line_end h = absurd h
     by_piece _ h = refl
 
+-- the place behind one token more
 place_behind-push : (ts : List PlainToken) (at : ℕ) (t : PlainToken) → place_behind at (ts ++ t ∷ []) ≡ t.to
 place_behind-push [] at t = refl
 place_behind-push (u ∷ ts) at t = place_behind-push ts u.to t

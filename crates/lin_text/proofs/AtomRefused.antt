@@ -25,7 +25,7 @@ use Rattle.lin_text.proofs.AtomRuns.{shown_term, items, shown_terms, shown_const
 use Rattle.lin_text.proofs.AtomPlaces.{run-append}
 use Rattle.lin_text.proofs.AtomTrees.{full_front, full_form}
 use Rattle.lin_text.proofs.AtomMeanings.{tree-op}
-use Rattle.lin_text.proofs.AtomClean.{too_many}
+use Rattle.lin_text.proofs.AtomCounts.{too_many}
 
 -- of two fronts of a list the longer one goes on with what is behind the other
 pub fronts : {X : Type 0} (xs ys us vs : List X) (u : X) → xs ++ ys ≡ us ++ u ∷ vs

@@ -12,7 +12,7 @@ use Rattle.lin_text.specs.Tokens.{token_from}
 use Rattle.lin_text.specs.declared.token.Token.{Token}
 use Rattle.lin_text.specs.declared.token.TokenKind.TheVariants.{LineEnd}
 use Rattle.lin_text.specs.Pieces.{piece_of, PlainToken, plain_token, first_token, is_last, AreTokens}
-use Rattle.lin_text.proofs.Positions.{first_token-ahead, line_end-within}
+use Rattle.lin_text.proofs.TokenPlaces.{first_token-ahead, line_end-within}
 
 abbrev feed : List ℕ
 feed = 10 ∷ []

@@ -19,7 +19,8 @@ use Rattle.lin_text.specs.KeyAtoms.{key_name, side_term, cmp_of_op, key_atom_tex
 use Rattle.lin_text.specs.KeyAtomTexts.{op_of, IsKeyName, AtomTree, IsOnKeyVar, IsFormTerm, AreFormTerms, Means}
 use Rattle.lin_text.specs.KeyAtomTexts.{WritesAtom}
 use Rattle.lin_text.proofs.ReadBackTokens.{Reads-feed, Reads-blank, Starts}
-use Rattle.lin_text.proofs.ReadBackWords.{Stops-blank, Starts-compare, plain_sign, IsOwnName}
+use Rattle.lin_text.proofs.ReadBackWords.{Stops-blank, IsOwnName}
+use Rattle.lin_text.proofs.ReadBackSigns.{Starts-compare, plain_sign}
 use Rattle.lin_text.proofs.ReadBackWords.{AreDigits-decimal}
 use Rattle.lin_text.proofs.ReadBackSides.{first_item, later_item, shown_side, shown_size-is, Starts-side}
 use Rattle.lin_text.proofs.ReadBackSides.{CanSpell, first_factor, later_factor}

@@ -1,4 +1,5 @@
 mod LineLemmas
+mod TokenPlaces
 mod Positions
 mod Places
 mod UniqueTokens
@@ -9,15 +10,18 @@ mod IntegerLemmas
 mod NamedLemmas
 mod NameLemmas
 mod SideLemmas
+mod BegunLines
 mod Shapes
 mod Passing
 mod Outcomes
 mod PositionLemmas
 mod Bounds
+mod NamedItems
 mod Quantities
 mod Items
 mod Sides
 mod AtomLines
+mod RangesRead
 mod Ranges
 mod VarLines
 mod QueryLines
@@ -27,6 +31,7 @@ mod FirstFault
 mod QueryReads
 mod OneFault
 mod ReadBackTokens
+mod ReadBackSigns
 mod ReadBackWords
 mod ReadBackSides
 mod ReadBackLines
@@ -41,6 +46,7 @@ mod NoFaultSides
 mod NoFaultLines
 mod NoFaultCompared
 mod NoFaultDeclared
+mod SymbolForms
 mod Longest
 mod SpelledOrFault
 mod NextLines
@@ -55,6 +61,7 @@ mod AtomRuns
 mod AtomPlaces
 mod AtomTrees
 mod AtomMeanings
+mod AtomCounts
 mod AtomClean
 mod AtomRefused
 mod AtomFirst

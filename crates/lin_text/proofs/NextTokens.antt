@@ -14,7 +14,8 @@ use Rattle.lin_text.specs.Lines.{is_feed, is_blank}
 use Rattle.lin_text.specs.Tokens.{IsNameForm, IsNumberForm, IsForm, IsLongest, token_length, symbol_length}
 use Rattle.lin_text.specs.Tokens.{kind_of, nothing_at, token_of, token_here, token_from}
 use Rattle.lin_text.specs.FoundLaws.{IsOver, BeginsNone, IsOfKind, TokensAreNext}
-use Rattle.lin_text.proofs.Longest.{start-no_digit, no_symbol, symbol_front, run_passes, takes_the_longest}
+use Rattle.lin_text.proofs.Longest.{symbol_front, run_passes, takes_the_longest}
+use Rattle.lin_text.proofs.SymbolForms.{start-no_digit, no_symbol}
 
 -- there is one longest token
 one_longest : (text : List ℕ) (n m : ℕ) → IsLongest text n → IsLongest text m → n ≡ m

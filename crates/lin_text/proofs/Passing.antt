@@ -15,7 +15,8 @@ use Rattle.lin_text.specs.Faults.{IsTooLarge, Stands}
 use Rattle.lin_text.specs.Kinds.{rank}
 use Rattle.lin_text.proofs.Places.{Place, start, var_name, item, size, after, next, after_next, run, run-append}
 use Rattle.lin_text.proofs.Places.{run-joint, run-side, start-side, run-BeginsLine}
-use Rattle.lin_text.proofs.Shapes.{Shape, Shape-next, BeginsLine-run}
+use Rattle.lin_text.proofs.Shapes.{Shape, Shape-next}
+use Rattle.lin_text.proofs.BegunLines.{BeginsLine-run}
 
 -- the line goes on behind these tokens as it does at the place; v says whether it declares a variable
 pub record At (v : Bool) (front : List Piece) (s : Place) : Type 0 where

@@ -1,101 +1,25 @@
 -- The quantity of an item, token by token: a number, a name, or a number times a name.
 use Rattle.std.proofs.Common.{◌≡◌, ℕ, ◌^◌, ◌<◌, ◌≤◌, min, suc, Bool, true, false, cond, nat_lt, List, [], ◌∷◌}
 use Rattle.std.proofs.Common.{◌++◌, Option, Some, None, refl, sym, ap, subst, ◌∙◌, arith, ℤ, inl, inr}
-use Rattle.std.specs.Prelude.{Ok, Err, MatchBool, Contains, unsigned_abs, slice_range}
+use Rattle.std.specs.Prelude.{Ok, Err, MatchBool, unsigned_abs}
 use Rattle.std.proofs.lemmas.Int.{ints}
 use borrow.Author.Tests.{ltb-true, ltb-false}
 use Rattle.lin_model.specs.Terms.{PlainTerm, TermFits}
-use Rattle.lin_text.specs.declared.fault.TextKind.TheVariants.{NumberTooLarge, UnknownName}
+use Rattle.lin_text.specs.declared.fault.TextKind.TheVariants.{NumberTooLarge}
 use Rattle.lin_text.specs.declared.class.Lexeme.{Lexeme}
 use Rattle.lin_text.specs.Pieces.{Piece, name, number, minus, times, PlainToken, PlainLine, pieces, AreTokens, is_last}
 use Rattle.lin_text.specs.Classes.{class_of, shown}
 use Rattle.lin_text.specs.Grammar.{Quantity, constant, multiple, single, quantity_pieces, quantity_size, signed, IsOn}
 use Rattle.lin_text.specs.Grammar.{Naming}
-use Rattle.lin_text.specs.Faults.{IsTooLarge, begins_times, begins_variable, declared_names, known}
-use Rattle.lin_text.specs.Reading.{Read, lexeme_at, fault_at, refusal, refusal_kind, is_times, is_name_class}
-use Rattle.lin_text.specs.Reading.{variable_by, variable_of, number_at, quantity_by, quantity_at}
+use Rattle.lin_text.specs.Faults.{IsTooLarge, begins_times, known}
+use Rattle.lin_text.specs.Reading.{Read, lexeme_at, fault_at, is_times, is_name_class}
+use Rattle.lin_text.specs.Reading.{variable_of, number_at, quantity_by, quantity_at}
 use Rattle.lin_text.proofs.Places.{Place, size, after, factor, next}
-use Rattle.lin_text.proofs.Passing.{At, At-next, IsRoom, NoFault, not-nil, refused, small_rank, name_rank, passed}
+use Rattle.lin_text.proofs.Passing.{At, At-next, IsRoom, NoFault, not-nil, small_rank, passed}
 use Rattle.lin_text.proofs.Passing.{sign_passed}
 use Rattle.lin_text.proofs.Outcomes.{Token, token_of, Gets, Gets-one, Fails, Fails-one, Outcome, Outcome-after}
 use Rattle.lin_text.proofs.Outcomes.{Outcome-weaker}
-use Rattle.lin_text.proofs.PositionLemmas.{position-none, Contains-position, name-text}
-
--- a name stands there, of a declared variable
-abbrev pub IsNamed : Naming → ℤ → Place → PlainTerm → ℕ → List Piece → Place → Type 0
-IsNamed names f u term to ps s = (x : List ℕ) × (k : ℕ) × (ps ≡ name x ∷ [])
-    × (term ≡ record { factor = f; var = Some k }) × (names x ≡ Some k) × (s ≡ u)
-
-module _ (p : Bool) (bytes : List ℕ) (above : List PlainLine) (front : List Piece) (at : ℕ) (ts : List PlainToken)
-    (t : Token p bytes at ts) (room : IsRoom above front t.token.piece) where
-  pub refuse : (w : Place) → At false front w → next w t.token.piece ≡ None
-      → Fails above front ts (refusal (shown t.token))
-  refuse w here none =
-      Fails-one p bytes above false front at ts t (refusal_kind (class_of t.token.piece))
-      (refused above false front w t.token.piece (pieces t.more) here room none)
-
-  found : (w u : Place) → At false front w → (x : List ℕ) → t.token.piece ≡ name x → next w (name x) ≡ Some u
-      → ((l : Bool) → next w minus ≡ Some (size l 64) → ⊥) → (f : ℤ) → (o : Option ℕ)
-      → known above (slice_range bytes t.token.from t.token.to) ≡ o
-      → Outcome p bytes above false front ts (IsNamed (known above) f u) (variable_by o (shown t.token) f)
-  found w u here x is some space f None e =
-      Fails-one p bytes above false front at ts t UnknownName (record {
-        stands = (
-          x,
-          is,
-          here.kind,
-          position-none x (declared_names above)
-              (ap (known above) (name-text p bytes at t.token x t.is is) ∙ e),
-        );
-        least = name_rank above false front w u t.token.piece (pieces t.more) here room (ap (next w) is ∙ some) space
-            (λ n same. let no : name x ≡ number n = sym is ∙ same in cc);
-      })
-  found w u here x is some space f (Some k) e =
-      let there : known above x ≡ Some k = ap (known above) (name-text p bytes at t.token x t.is is) ∙ e in (
-        t.token.piece ∷ [],
-        u,
-        (x, k, ap (λ (q : Piece). q ∷ []) is, refl, there, refl),
-        Gets-one p bytes above false front at ts t u
-            (passed above false front w u t.token.piece (pieces t.more) here room (ap (next w) is ∙ some) space
-            (λ n same. let no : name x ≡ number n = sym is ∙ same in absurd (cc))
-            (λ y same _. let eq : x ≡ y = (let no : name x ≡ name y = sym is ∙ same in cc) in
-            subst (λ (z : List ℕ). Contains (declared_names above) z) eq
-            (Contains-position x (declared_names above) k there))
-            (λ y same first. let no : true ≡ false = ap begins_variable (sym first) ∙ here.kind in absurd (cc)))
-            (At-next false front w u t.token.piece here room.vars (ap (next w) is ∙ some))
-            (ap is_last is),
-      )
-
-  pub name_out : (w u : Place) → At false front w → (x : List ℕ) → t.token.piece ≡ name x → next w (name x) ≡ Some u
-      → ((l : Bool) → next w minus ≡ Some (size l 64) → ⊥) → (f : ℤ)
-      → Outcome p bytes above false front ts (IsNamed (known above) f u)
-      (variable_of bytes (known above) (shown t.token) f)
-  unfolding variable_of
-  name_out w u here x is some space f =
-      subst (λ (b : Bool). Outcome p bytes above false front ts (IsNamed (known above) f u)
-      (cond b (variable_by (known above (slice_range bytes t.token.from t.token.to)) (shown t.token) f)
-      (Err (refusal (shown t.token)))))
-      (sym (ap (λ (r : Piece). is_name_class (class_of r)) is)) (found w u here x is some space f _ refl)
-
-  -- a name where one may stand
-  pub variable_out : (w u : Place) → At false front w → ((x : List ℕ) → next w (name x) ≡ Some u)
-      → ((q : Piece) → is_name_class (class_of q) ≡ false → next w q ≡ None)
-      → ((l : Bool) → next w minus ≡ Some (size l 64) → ⊥) → (f : ℤ)
-      → Outcome p bytes above false front ts (IsNamed (known above) f u)
-      (variable_of bytes (known above) (shown t.token) f)
-  unfolding variable_of
-  variable_out w u here some other space f = by_piece t.token.piece refl
-    where
-      Goal : Bool → Type 0
-      Goal b = Outcome p bytes above false front ts (IsNamed (known above) f u)
-          (cond b (variable_by (known above (slice_range bytes t.token.from t.token.to)) (shown t.token) f)
-          (Err (refusal (shown t.token))))
-
-      by_piece : (q : Piece) → t.token.piece ≡ q → Goal (is_name_class (class_of t.token.piece))
-      by_piece (name x) is = subst Goal (sym (ap (λ (r : Piece). is_name_class (class_of r)) is))
-          (found w u here x is (some x) space f _ refl)
-      by_piece q is = subst Goal (sym (ap (λ (r : Piece). is_name_class (class_of r)) is))
-          (refuse w here (ap (next w) is ∙ other q refl))
+use Rattle.lin_text.proofs.NamedItems.{IsNamed, name_out, refuse, variable_out}
 
 -- a term's factor, and which quantity it is; behind a number alone no `*` comes
 abbrev pub IsQuantityAt : Bool → List ℕ → Naming → Bool → Bool → ℕ → PlainTerm → ℕ → List Piece → Place → Type 0

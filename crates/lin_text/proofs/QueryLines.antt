@@ -22,7 +22,7 @@ use Rattle.lin_text.specs.Reading.{Read, fault_at, refusal, refusal_kind, is_var
 use Rattle.lin_text.specs.Reading.{full_query_at, variable_at, declaration_at, atom_from, var_line_at, atom_line_at}
 use Rattle.lin_text.specs.Reading.{line_at, ◌>>=◌}
 use Rattle.lin_text.proofs.Places.{start, var_name, item, next, run}
-use Rattle.lin_text.proofs.Shapes.{BeginsLine-run}
+use Rattle.lin_text.proofs.BegunLines.{BeginsLine-run}
 use Rattle.lin_text.proofs.Passing.{At, At-var, At-start, NoFault, FirstStands, refused}
 use Rattle.lin_text.proofs.Outcomes.{Passes, Token, Gets, Gets-one, Fails, Fails-one, Fails-behind}
 use Rattle.lin_text.proofs.AtomLines.{LineOut, LineOut-behind, atom_out}

@@ -17,8 +17,9 @@ use Rattle.lin_text.specs.Grammar.{integer_pieces, integer_value, quantity_piece
 use Rattle.lin_text.specs.Grammar.{number_among, Declares, Compares}
 use Rattle.lin_text.specs.Queries.{begins_word, names_of}
 use Rattle.lin_text.proofs.ReadBackTokens.{Reads, Reads-feed, Reads-blank, Starts}
-use Rattle.lin_text.proofs.ReadBackWords.{Stops-blank, Stops-feed, Starts-name, Starts-number, Starts-compare}
-use Rattle.lin_text.proofs.ReadBackWords.{Starts-var, plain_sign, plain_sign-means}
+use Rattle.lin_text.proofs.ReadBackWords.{Stops-blank, Stops-feed, Starts-name, Starts-number}
+use Rattle.lin_text.proofs.ReadBackSigns.{Starts-compare}
+use Rattle.lin_text.proofs.ReadBackSigns.{Starts-var, plain_sign, plain_sign-means}
 use Rattle.lin_text.proofs.DistinctNames.{Distinct}
 use Rattle.lin_text.proofs.ReadBackSides.{first_sign, shown_side, Starts-side, IsExpr-shown, CanSpell, CanSpell-all}
 use Rattle.lin_text.proofs.ReadBackSides.{FreeNames}

@@ -19,8 +19,10 @@ use Rattle.lin_text.specs.Grammar.{number_among, AreTerms, IsExpr}
 use Rattle.lin_text.specs.Queries.{names_of}
 use Rattle.lin_text.proofs.DistinctNames.{Distinct, number_there}
 use Rattle.lin_text.proofs.ReadBackTokens.{Reads, Reads-blank, Starts}
-use Rattle.lin_text.proofs.ReadBackWords.{Stops, Stops-blank, Starts-name, Starts-number, Starts-minus, Starts-plus}
-use Rattle.lin_text.proofs.ReadBackWords.{Starts-times, IsOwnName}
+use Rattle.lin_text.proofs.ReadBackWords.{Stops, Stops-blank, Starts-name, Starts-number}
+use Rattle.lin_text.proofs.ReadBackSigns.{Starts-minus, Starts-plus}
+use Rattle.lin_text.proofs.ReadBackWords.{IsOwnName}
+use Rattle.lin_text.proofs.ReadBackSigns.{Starts-times}
 
 -- what the spelling shows of a term: its size and its variable
 abbrev pub shown_size : (ℕ → List ℕ) → ℕ → Option ℕ → Quantity

@@ -19,7 +19,8 @@ use Rattle.lin_text.proofs.Shapes.{SideFront, ItemFront}
 use Rattle.lin_text.proofs.Passing.{At, At-next, IsRoom, sign_passed}
 use Rattle.lin_text.proofs.Outcomes.{Token, token_of, Gets-one, Gets-none, Fails, Fails-one, Outcome, Outcome-after}
 use Rattle.lin_text.proofs.Outcomes.{Outcome-then, Outcome-map, Outcome-weaker}
-use Rattle.lin_text.proofs.Quantities.{later_room, refuse}
+use Rattle.lin_text.proofs.Quantities.{later_room}
+use Rattle.lin_text.proofs.NamedItems.{refuse}
 use Rattle.lin_text.proofs.Items.{IsItemAt, item_out}
 
 front_of : (l : Bool) (b : List Piece) → SideFront l b → EndsBeforeSide b
