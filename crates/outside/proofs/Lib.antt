@@ -1,1 +1,5 @@
 mod Checks
+mod PatchLemmas
+mod StepLemmas
+mod MomentLemmas
+mod MemDiskLemmas

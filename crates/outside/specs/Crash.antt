@@ -16,10 +16,14 @@ abbrev pub ReadsAt : Option (List ℕ) → ℕ → List ℕ → ℕ → Type 0
 ReadsAt None at buf n = ⊤
 ReadsAt (Some file) at buf n = (n ≡ min (length buf) (length file - at)) × (take n buf ≡ take n (drop at file))
 
+-- the file with these bytes from `at` on
+abbrev pub patched : List ℕ → ℕ → List ℕ → List ℕ
+patched file at bytes = take at file ++ bytes ++ drop (at + length bytes) file
+
 -- the file has these bytes from `at` on, and is otherwise as it was
 abbrev pub WritesAt : Option (List ℕ) → Option (List ℕ) → ℕ → List ℕ → Type 0
 WritesAt None new at bytes = new ≡ None
-WritesAt (Some file) new at bytes = new ≡ Some (take at file ++ bytes ++ drop (at + length bytes) file)
+WritesAt (Some file) new at bytes = new ≡ Some (patched file at bytes)
 
 -- Any bytes in the range of n bytes from `at` on and past the old end, which may have moved as far as the range
 -- reaches. All else is as it was.

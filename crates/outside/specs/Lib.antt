@@ -2,7 +2,16 @@ pub mod States
 pub mod Counts
 pub mod Bytes
 pub mod Crash
+pub mod TornFacts
+pub mod Runs
+pub mod RunFacts
+pub mod PastWrite
+pub mod Steps
+pub mod MemDisk
+pub mod MemDiskFacts
 pub mod MemSource
 pub mod MemSink
 pub mod StdEnds
+pub mod Untold
 pub mod NoDisk
+pub mod FileDisk

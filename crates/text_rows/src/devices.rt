@@ -1,7 +1,8 @@
 //! What no clause says: that the objects work with ample memory.
 use crate::fixtures::expect_read;
-use outside::{Failed, MemSink, MemSource, Sink, StdSink, StdSource};
+use outside::{Disk, Failed, FileDisk, MemDisk, MemSink, MemSource, Sink, StdSink, StdSource};
 use std::alloc::{AllocError, Global};
+use std::fs;
 use std::process::Abort;
 use std::test::Fail;
 
@@ -58,5 +59,119 @@ fn readers_and_writers_of_std_give_and_take_all(rt: HostRuntime) -> Result<(), F
     expect_written(&rt, &mut sink, &buf, Ok(()));
     drop(sink);
     assert_eq!(rt; taken.as_slice(), buf.as_slice());
+    Ok(())
+}
+
+#[test]
+fn a_disk_writes_half_of_the_listed_piece(rt: HostRuntime) -> Result<(), Fail> {
+    let mut disk = disk_of(rt.alloc(), &[1, 2, 3, 4], &[1, 4])?;
+    expect_saved(&rt, &mut disk, 1, &[8, 9], Ok(()));
+    expect_saved(&rt, &mut disk, 3, &[5, 6, 7], Err(Failed));
+    assert_eq!(rt; disk.bytes(), [1, 8, 9, 5].as_slice());
+    expect_saved(&rt, &mut disk, 4, &[6], Ok(()));
+    assert_eq!(rt; disk.bytes(), [1, 8, 9, 5, 6].as_slice());
+    assert_eq!(rt; disk.sync(), Ok(()));
+    assert_eq!(rt; disk.sync(), Err(Failed));
+    assert_eq!(rt; disk.calls(), 5);
+    assert_eq!(rt; disk.starved(), 0);
+    Ok(())
+}
+
+/// A disk with these bytes that fails at the listed calls.
+fn disk_of(alloc: Global, bytes: &[u8], failing: &[u64]) -> Result<MemDisk, AllocError> {
+    let bytes = bytes.to_vec(alloc)?;
+    Ok(MemDisk::new(alloc, bytes, failing.to_vec(alloc)?))
+}
+
+fn expect_saved(
+    rt: &impl Abort,
+    disk: &mut MemDisk,
+    at: u64,
+    piece: &[u8],
+    want: Result<(), Failed>,
+) {
+    assert!(rt; at <= disk.bytes().len() as u64);
+    assert_eq!(rt; disk.write_at(at, piece), want);
+}
+
+#[test]
+fn a_disk_reads_what_is_there(rt: HostRuntime) -> Result<(), Fail> {
+    let mut disk = disk_of(rt.alloc(), &[1, 2, 3], &[2])?;
+    let mut buf = [0u8; 2];
+    assert_eq!(rt; disk.bind("any"), Ok(()));
+    assert_eq!(rt; disk.read_at(0, &mut buf), Ok(2));
+    assert_eq!(rt; buf, [1, 2]);
+    assert_eq!(rt; disk.read_at(0, &mut buf), Err(Failed));
+    assert_eq!(rt; disk.read_at(2, &mut buf), Ok(1));
+    assert_eq!(rt; buf, [3, 2]);
+    assert_eq!(rt; disk.read_at(7, &mut buf), Ok(0));
+    assert_eq!(rt; disk.len(), Ok(3));
+    Ok(())
+}
+
+#[test]
+fn a_torn_write_leaves_each_front_of_its_piece(rt: HostRuntime) -> Result<(), Fail> {
+    let mut disk = disk_of(rt.alloc(), &[1, 2, 3], &[1])?;
+    expect_saved(&rt, &mut disk, 2, &[7, 8, 9], Ok(()));
+    expect_saved(&rt, &mut disk, 0, &[4, 5], Err(Failed));
+    assert_eq!(rt; disk.bytes(), [4, 2, 7, 8, 9].as_slice());
+    assert_eq!(rt; disk.sync(), Ok(()));
+    expect_saved(&rt, &mut disk, 0, &[6], Ok(()));
+    expect_image(&rt, &disk, 0, 0, &[1, 2, 3])?;
+    expect_image(&rt, &disk, 0, 1, &[1, 2, 7])?;
+    expect_image(&rt, &disk, 0, 2, &[1, 2, 7, 8])?;
+    expect_image(&rt, &disk, 0, 3, &[1, 2, 7, 8, 9])?;
+    expect_image(&rt, &disk, 1, 0, &[1, 2, 7, 8, 9])?;
+    expect_image(&rt, &disk, 1, 1, &[4, 2, 7, 8, 9])?;
+    expect_image(&rt, &disk, 1, 2, &[4, 5, 7, 8, 9])?;
+    expect_image(&rt, &disk, 2, 0, &[4, 2, 7, 8, 9])?;
+    expect_image(&rt, &disk, 3, 0, &[4, 2, 7, 8, 9])?;
+    expect_image(&rt, &disk, 3, 1, &[6, 2, 7, 8, 9])?;
+    expect_pieces(&rt, &disk, &[3, 2, 0, 1]);
+    Ok(())
+}
+
+fn expect_image(
+    rt: &impl Abort,
+    disk: &MemDisk,
+    call: u64,
+    kept: u64,
+    want: &[u8],
+) -> Result<(), Fail> {
+    assert!(rt; call < disk.calls());
+    assert!(rt; kept <= disk.piece(call));
+    let image = disk.image(call, kept)?;
+    assert_eq!(rt; image.as_slice(), want);
+    Ok(())
+}
+
+/// The lengths of the pieces of all calls.
+fn expect_pieces(rt: &impl Abort, disk: &MemDisk, want: &[u64]) {
+    assert_eq!(rt; disk.calls(), want.len() as u64);
+    for (call, len) in want.iter().enumerate() {
+        assert_eq!(rt; disk.piece(call as u64), *len);
+    }
+}
+
+#[test]
+fn a_file_gives_back_what_was_written(rt: HostRuntime) -> Result<(), Fail> {
+    let name = "a_file_gives_back_what_was_written";
+    let mut disk = FileDisk::new(rt);
+    assert_eq!(rt; disk.len(), Err(Failed));
+    assert_eq!(rt; disk.bind(""), Err(Failed));
+    assert_eq!(rt; disk.bind(name), Ok(()));
+    assert_eq!(rt; disk.write_at(0, &[1, 2, 3, 4]), Ok(()));
+    assert_eq!(rt; disk.write_at(2, &[7, 8, 9]), Ok(()));
+    assert_eq!(rt; disk.sync(), Ok(()));
+    drop(disk);
+    let mut disk = FileDisk::new(rt);
+    assert_eq!(rt; disk.bind(name), Ok(()));
+    assert_eq!(rt; disk.len(), Ok(5));
+    let mut buf = [0u8; 4];
+    assert_eq!(rt; disk.read_at(0, &mut buf), Ok(4));
+    assert_eq!(rt; buf, [1, 2, 7, 8]);
+    assert_eq!(rt; disk.read_at(4, &mut buf), Ok(1));
+    assert_eq!(rt; buf, [9, 2, 7, 8]);
+    fs::remove_file(&rt, name)?;
     Ok(())
 }

@@ -1,0 +1,14 @@
+use Rattle.std.proofs.Common.{◌≡◌, ◌++◌, ◌∷◌, [], List, reverse, sym, ap, ◌∙◌, subst, arith, rules}
+use Rattle.outside.specs.Crash.{patched}
+use Rattle.outside.specs.PastWrite.{PlainWrite, write_over}
+use Rattle.outside.specs.Steps.{AreOrdered}
+use Rattle.outside.specs.MemDisk.{MemDiskState}
+use Rattle.outside.proofs.StepLemmas.{pushed_write}
+use Rattle.outside.proofs.mem_disk.MemDisk.write_front.Goals as goal
+
+pub invariant_of-self-2 : goal.invariant_of-self-2
+invariant_of-self-2 c =
+    let ordered = subst (λ (disk : MemDiskState). AreOrdered c.args.call disk.steps) (sym c.self.view_is) c.requires.ordered in
+    pushed_write c.self.inside.bytes.items c.patch.new.file.items c.self.inside.steps.items c.push_reserved.new.self.items
+    c.in_ok-write.write c.args.call c.self.inside.calls c.args.at c.args.piece.now c.args.done
+    (search rules) c.requires.done (search rules) ordered c.self.invariant.1 (search rules) (search rules) (search rules)
