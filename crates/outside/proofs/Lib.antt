@@ -3,3 +3,4 @@ mod PatchLemmas
 mod StepLemmas
 mod MomentLemmas
 mod MemDiskLemmas
+mod RememberLemmas

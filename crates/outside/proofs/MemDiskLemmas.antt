@@ -1,11 +1,12 @@
 -- What the calls of a disk in memory do, as what they do to a disk.
-use Rattle.std.proofs.Common.{◌≡◌, ◌⊎◌, ◌↔◌, inl, inr, ⊎_elim, ℕ, ◌+◌, ◌<◌, ◌≤◌, List, ◌∷◌, length, take, Some, refl, sym, ap}
+use Rattle.std.proofs.Common.{◌≡◌, inl, inr, ⊎_elim, ℕ, ◌≤◌, List, ◌∷◌, length, take, Some, refl, sym, ap}
 use Rattle.std.proofs.Common.{◌∙◌, subst, arith, length-take}
 use Rattle.outside.specs.Crash.{patched, Torn, TearsAt, Synced, Follows, Looks, GoesOn}
 use Rattle.outside.specs.TornFacts.{Torn-refl, Torn-patched}
 use Rattle.outside.specs.PastWrite.{write_over}
 use Rattle.outside.specs.Steps.{before_step, MayLeave, MightHaveLeft}
-use Rattle.outside.specs.MemDisk.{MemDiskState, mem_disk, KeepsFile, WritesFront, Syncs}
+use Rattle.outside.specs.MemDisk.{MemDiskState, mem_disk}
+use Rattle.outside.specs.MemDiskCalls.{KeepsFile, HasPiece, WritesFront, Syncs}
 use Rattle.outside.specs.MemDiskFacts.{MayLeave-file}
 use Rattle.outside.specs.declared.step.Step.{Step}
 use Rattle.outside.specs.declared.step.Step.TheVariants.{Write, Sync}
@@ -92,9 +93,9 @@ module _ (old new : MemDiskState) (at : ℕ) (piece : List ℕ) (done : ℕ) (wi
 
   -- with these bytes and steps, each image of before is left torn
   pub writes_front : new.bytes ≡ patched old.bytes at (take done piece)
-      → new.steps ≡ Write (write_over old.bytes old.calls at piece done) ∷ old.steps
+      → new.steps ≡ Write (write_over old.bytes old.calls at piece done) ∷ old.steps → HasPiece old new at piece
       → WritesFront old new at piece done
-  writes_front bytes steps = record {
+  writes_front bytes steps has = record {
     bytes = bytes;
     steps = steps;
     leaves_all = λ from image left torn.
@@ -106,6 +107,7 @@ module _ (old new : MemDiskState) (at : ℕ) (piece : List ℕ) (done : ℕ) (wi
               (sym (before-write_over old.bytes old.calls at piece done within fits)) left,
           torn,
         )));
+    has_piece = has;
   }
 
   module _ (writes : WritesFront old new at piece done) where

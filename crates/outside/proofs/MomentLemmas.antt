@@ -1,19 +1,12 @@
 -- The moments of a disk in memory, as far back as the beginning of a call.
-use Rattle.std.proofs.Common.{◌≡◌, ◌⊎◌, inl, inr, ⊎_elim, ℕ, ◌+◌, ◌<◌, ◌≤◌, List, [], ◌∷◌, length, refl, sym, ap, ◌∙◌, subst}
+use Rattle.std.proofs.Common.{◌⊎◌, inl, inr, ⊎_elim, ℕ, ◌+◌, ◌≤◌, List, [], ◌∷◌, length, sym, ap, subst}
 use Rattle.std.proofs.Common.{arith}
 use Rattle.std.proofs.lemmas.Bool.{cases_lt}
-use Rattle.outside.specs.Steps.{call_of, before_step, MayLeave, MightHaveLeft, Past, began}
+use Rattle.outside.specs.Steps.{call_of, before_step, MightHaveLeft, Past, began}
 use Rattle.outside.specs.MemDisk.{MayBeLeft}
+use Rattle.outside.specs.MemDiskFacts.{MightHaveLeft-earlier}
 use Rattle.outside.specs.declared.step.Step.{Step}
 use Rattle.outside.proofs.StepLemmas.{began-stops, began-goes}
-
--- what might have been left since a moment might have been left since an earlier one
-pub MightHaveLeft-earlier : (file : List ℕ) (steps : List Step) (t u : ℕ) (image : List ℕ) → t ≤ u
-    → MightHaveLeft file steps u image → MightHaveLeft file steps t image
-MightHaveLeft-earlier file [] t u image le left = (omega (arith, left.0), left.1)
-MightHaveLeft-earlier file (step ∷ older) t u image le left =
-    ⊎_elim (λ here. inl (omega (arith, here.0), here.1))
-    (λ there. inr (MightHaveLeft-earlier (before_step step file) older t u image le there)) left
 
 -- what was left as a call began might have been left since then
 pub left_as_began : (file : List ℕ) (steps : List Step) (call : ℕ) (image : List ℕ)

@@ -1,11 +1,11 @@
 -- Patches of files: in two parts, and taken back.
 use Rattle.std.proofs.Common.{◌≡◌, inl, inr, ℕ, ◌+◌, ◌-◌, ◌<◌, ◌≤◌, List, ◌++◌, length, take, drop, min, refl, sym, ap, ◌∙◌, arith}
-use Rattle.std.proofs.Common.{length-append, length-take, length-drop, append_assoc, append-nil, take-append-drop, take_at}
+use Rattle.std.proofs.Common.{length-take, length-drop, take-append-drop, take_at}
 use Rattle.std.proofs.Common.{take_all, drop-drop}
 use Rattle.std.proofs.lemmas.Bool.{cases_lt}
 use Rattle.outside.specs.Crash.{patched}
 use Rattle.outside.specs.TornFacts.{length-patched, patched-parts, take-patched, drop-patched}
-use Rattle.outside.specs.PastWrite.{PlainWrite, write_over}
+use Rattle.outside.specs.PastWrite.{write_over}
 use Rattle.outside.specs.Steps.{before_write, CanUndo}
 use Rattle.outside.specs.declared.step.Step.TheVariants.{Write}
 

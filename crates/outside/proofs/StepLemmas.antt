@@ -1,17 +1,16 @@
 -- Steps of a disk in memory: how one is taken back, and what a crash within a call leaves.
-use Rattle.std.proofs.Common.{◌≡◌, ◌⊎◌, inl, inr, ⊎_elim, ℕ, ◌+◌, ◌-◌, ◌^◌, ◌<◌, ◌≤◌, List, [], ◌∷◌, ◌++◌, length, take, drop}
-use Rattle.std.proofs.Common.{min, true, false, nat_lt, Option, None, Some, refl, sym, ap, ◌∙◌, subst, arith}
-use Rattle.std.proofs.Common.{length-append, length-take, length-drop, append_assoc, take-append-drop, take_at, take_all}
-use Rattle.std.proofs.Common.{drop-drop, lt-ltb, le-ltb, eq-eqb, ne_eqb, reverse}
+use Rattle.std.proofs.Common.{◌≡◌, ◌⊎◌, inl, inr, ℕ, ◌+◌, ◌-◌, ◌^◌, ◌<◌, ◌≤◌, List, [], ◌∷◌, ◌++◌, length, take}
+use Rattle.std.proofs.Common.{nat_lt, Option, None, Some, refl, sym, ap, ◌∙◌, subst, arith}
+use Rattle.std.proofs.Common.{length-take}
+use Rattle.std.proofs.Common.{lt-ltb, le-ltb, eq-eqb, ne_eqb, reverse}
 use Rattle.std.proofs.lemmas.List.{reverse-append}
-use Rattle.std.specs.Prelude.{◌==◌, find}
-use Rattle.std.proofs.lemmas.Bool.{cases_lt, cases_order, cond-true, cond-false}
-use Rattle.outside.specs.Counts.{raised, Rose}
-use Rattle.outside.specs.Crash.{patched, Torn}
-use Rattle.outside.specs.TornFacts.{Torn-patched, length-patched, patched-parts, take-patched, drop-patched}
-use Rattle.outside.specs.PastWrite.{PlainWrite, write_over}
-use Rattle.outside.specs.Steps.{call_of, before_write, before_step, MayLeave, MightHaveLeft, Past, began, step_in, piece_of}
-use Rattle.outside.specs.Steps.{with_front, BeginsWithin, AreOrdered, CanUndo, CanUndoAll}
+use Rattle.std.specs.Prelude.{◌==◌}
+use Rattle.std.proofs.lemmas.Bool.{cases_order, cond-true, cond-false}
+use Rattle.outside.specs.Crash.{patched}
+use Rattle.outside.specs.TornFacts.{Torn-patched, length-patched}
+use Rattle.outside.specs.PastWrite.{PastWriteState, write_over}
+use Rattle.outside.specs.Steps.{call_of, before_write, before_step, MayLeave, Past, began, step_in}
+use Rattle.outside.specs.Steps.{with_front, BeginsWithin, IsEarlierCall, AreOrdered, CanUndo, CanUndoAll}
 use Rattle.outside.specs.MemDisk.{MayBeLeft}
 use Rattle.outside.specs.MemDiskFacts.{MayLeave-file}
 use Rattle.outside.specs.declared.step.Step.{Step}
@@ -24,14 +23,14 @@ AreOrdered-later call later [] le ordered = ordered
 AreOrdered-later call later (step ∷ older) le ordered = (omega (arith, ordered.0), ordered.1)
 
 -- a write over the file, remembered behind steps that are in order and can be undone
-pub pushed_write : (old new : List ℕ) (steps later : List Step) (write : PlainWrite) (call bound at : ℕ) (piece : List ℕ)
-    (done : ℕ) → at ≤ length old → done ≤ length piece → Rose call bound → AreOrdered call (reverse steps)
+pub pushed_write : (old new : List ℕ) (steps later : List Step) (write : PastWriteState) (call bound at : ℕ) (piece : List ℕ)
+    (done : ℕ) → at ≤ length old → done ≤ length piece → IsEarlierCall call bound → AreOrdered call (reverse steps)
     → CanUndoAll old (reverse steps) → write ≡ write_over old call at piece done → new ≡ patched old at (take done piece)
     → later ≡ steps ++ Write write ∷ [] → AreOrdered bound (reverse later) × CanUndoAll new (reverse later)
 pushed_write old new steps later write call bound at piece done within fits rose ordered can is written pushed =
     let top : reverse later ≡ Write (write_over old call at piece done) ∷ reverse steps =
     ap reverse pushed ∙ reverse-append steps (Write write ∷ [])
-    ∙ ap (λ (w : PlainWrite). Write w ∷ reverse steps) is in (
+    ∙ ap (λ (w : PastWriteState). Write w ∷ reverse steps) is in (
       subst (λ (s : List Step). AreOrdered bound s) (sym top) (rose, ordered),
       subst (λ (s : List Step). CanUndoAll new s) (sym top)
           (subst (λ (file : List ℕ). CanUndoAll file (Write (write_over old call at piece done) ∷ reverse steps))

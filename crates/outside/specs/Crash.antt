@@ -26,7 +26,8 @@ WritesAt None new at bytes = new ≡ None
 WritesAt (Some file) new at bytes = new ≡ Some (patched file at bytes)
 
 -- Any bytes in the range of n bytes from `at` on and past the old end, which may have moved as far as the range
--- reaches. All else is as it was.
+-- reaches. All else is as it was. A list stands for bytes; numbers above 255 are not left out, so what is said of every
+-- image is said of more than there are.
 pub record Torn (at n : ℕ) (old new : List ℕ) : Type 0 where
   pub before : take (min at (length old)) new ≡ take at old
   pub after : drop (at + n) new ≡ drop (at + n) old
@@ -70,7 +71,7 @@ pub record GoesOn (old new : DiskState) : Type 0 where
 
 -- What a disk tells fits together. One whose images keep the rules tells them, and its content, which is always one of
 -- the images that a crash may leave. This moment is one of those since an earlier one, and since this one there is no
--- other.
+-- other. What was left since a moment was left since each earlier one.
 pub record IsConsistent (disk : DiskState) : Type 0 where
   pub tells : IsTrue disk.keeps_rules → IsTrue disk.tells_images
   pub tells_content : IsTrue disk.keeps_rules → IsSome disk.content
@@ -79,3 +80,5 @@ pub record IsConsistent (disk : DiskState) : Type 0 where
       → disk.may_leave image → disk.left_since t image
   pub only_now : IsTrue disk.keeps_rules → (image : List ℕ)
       → disk.left_since disk.moment image → disk.may_leave image
+  pub since_earlier : IsTrue disk.keeps_rules → (t later : ℕ) (image : List ℕ) → t ≤ later → later ≤ disk.moment
+      → disk.left_since later image → disk.left_since t image

@@ -8,6 +8,7 @@ pub mod RunFacts
 pub mod PastWrite
 pub mod Steps
 pub mod MemDisk
+pub mod MemDiskCalls
 pub mod MemDiskFacts
 pub mod MemSource
 pub mod MemSink

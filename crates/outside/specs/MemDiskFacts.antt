@@ -1,9 +1,9 @@
--- What a disk in memory tells fits together.
-use Rattle.std.proofs.Common.{◌≡◌, ◌⊎◌, inl, inr, ⊎_elim, ℕ, ◌≤◌, List, [], ◌∷◌, length, refl, arith}
-use Rattle.outside.specs.States.{DiskState}
+-- What a disk in memory tells fits together, and what it tells of a call stays.
+use Rattle.std.proofs.Common.{◌≡◌, inl, inr, ⊎_elim, ℕ, ◌<◌, ◌≤◌, List, [], ◌∷◌, length, Option, refl, ap, ◌∙◌, arith}
 use Rattle.outside.specs.Crash.{IsConsistent}
-use Rattle.outside.specs.Steps.{before_step, MayLeave, MightHaveLeft}
-use Rattle.outside.specs.MemDisk.{MemDiskState, mem_disk}
+use Rattle.outside.specs.Steps.{before_step, MayLeave, MightHaveLeft, Past, step_in, piece_of, with_front}
+use Rattle.outside.specs.MemDisk.{MemDiskState, mem_disk, as_began, piece_in, image_in}
+use Rattle.outside.specs.MemDiskCalls.{Remembers}
 use Rattle.outside.specs.declared.step.Step.{Step}
 use Rattle.outside.specs.declared.step.Step.TheVariants.{Write, Sync}
 
@@ -38,6 +38,14 @@ MightHaveLeft-only_now file (step ∷ older) image left =
       MightHaveLeft-within (before_step step file) older (length (step ∷ older)) image there,
     ))) left
 
+-- what might have been left since a moment might have been left since an earlier one
+pub MightHaveLeft-earlier : (file : List ℕ) (steps : List Step) (t u : ℕ) (image : List ℕ) → t ≤ u
+    → MightHaveLeft file steps u image → MightHaveLeft file steps t image
+MightHaveLeft-earlier file [] t u image le left = (omega (arith, left.0), left.1)
+MightHaveLeft-earlier file (step ∷ older) t u image le left =
+    ⊎_elim (λ here. inl (omega (arith, here.0), here.1))
+    (λ there. inr (MightHaveLeft-earlier (before_step step file) older t u image le there)) left
+
 pub mem_disk_is_consistent : (disk : MemDiskState) → IsConsistent (mem_disk disk)
 mem_disk_is_consistent disk = record {
   tells = λ rules. refl;
@@ -45,4 +53,18 @@ mem_disk_is_consistent disk = record {
   may_stay = λ rules. MayLeave-file disk.bytes disk.steps;
   counts_now = λ rules t image before left. MightHaveLeft-now disk.bytes disk.steps t image before left;
   only_now = λ rules image left. MightHaveLeft-only_now disk.bytes disk.steps image left;
+  since_earlier = λ rules t later image le within left.
+      MightHaveLeft-earlier disk.bytes disk.steps t later image le left;
 }
+
+-- a call of before has the piece that it had
+pub Remembers-piece_in : (old new : MemDiskState) (call : ℕ) → Remembers old new → call < old.calls
+    → piece_in new call ≡ piece_in old call
+Remembers-piece_in old new call remembers earlier = ap piece_of (remembers.steps call earlier)
+
+-- a call of before has the images that it had
+pub Remembers-image_in : (old new : MemDiskState) (call kept : ℕ) → Remembers old new → call < old.calls
+    → image_in new call kept ≡ image_in old call kept
+Remembers-image_in old new call kept remembers earlier =
+    ap (λ (step : Option Step). with_front step kept (as_began new call).file) (remembers.steps call earlier)
+    ∙ ap (λ (past : Past). with_front (step_in old.steps call) kept past.file) (remembers.before call earlier)

@@ -1,11 +1,11 @@
 -- Laws of runs of calls on a disk: for the proofs of the crates above. That a disk is consistent is the law `consistent`
 -- of `Disk`.
-use Rattle.std.proofs.Common.{◌≡◌, ◌⊎◌, ◌↔◌, inl, inr, ⊎_elim, ℕ, ◌≤◌, List, Option, None, Some, IsTrue, refl, sym, ◌∙◌}
+use Rattle.std.proofs.Common.{◌≡◌, inl, inr, ⊎_elim, ℕ, ◌≤◌, List, Option, None, Some, IsTrue, refl, sym, ◌∙◌}
 use Rattle.std.proofs.Common.{subst, arith}
-use Rattle.std.specs.Option.{IfSome, IsSome}
+use Rattle.std.specs.Option.{IfSome}
 use Rattle.outside.specs.States.{DiskState}
-use Rattle.outside.specs.Crash.{Torn, Synced, Follows, Looks, Elapses, GoesOn, IsConsistent}
-use Rattle.outside.specs.Runs.{IsSettled, LeavesOnly, IsTornFrom, HasSamePast, OnlyLooks}
+use Rattle.outside.specs.Crash.{Torn, Synced, Looks, GoesOn, IsConsistent}
+use Rattle.outside.specs.Runs.{IsSettled, LeavesOnly, IsTornFrom, OnlyLooks}
 use Rattle.outside.specs.TornFacts.{Torn-refl}
 
 -- before the first call

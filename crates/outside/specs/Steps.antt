@@ -2,9 +2,9 @@
 -- steps stands beside the file as it is after the last of them.
 use Rattle.std.specs.Prelude.{◌≡◌, ◌==◌, ◌⊎◌, ℕ, ◌+◌, ◌≤◌, List, [], ◌∷◌, length, take, ⊤, Option, None, Some}
 use Rattle.std.specs.Prelude.{find, if◌then◌else◌, nat_lt}
-use Rattle.outside.specs.Counts.{Rose}
+use Rattle.outside.specs.Counts.{raised}
 use Rattle.outside.specs.Crash.{patched, Torn}
-use Rattle.outside.specs.PastWrite.{PlainWrite}
+use Rattle.outside.specs.PastWrite.{PastWriteState}
 use Rattle.outside.specs.declared.step.Step.{Step}
 use Rattle.outside.specs.declared.step.Step.TheVariants.{Write, Sync}
 
@@ -14,7 +14,7 @@ call_of (Write write) = write.call
 call_of (Sync call) = call
 
 -- the file as it was before a write
-abbrev pub before_write : PlainWrite → List ℕ → List ℕ
+abbrev pub before_write : PastWriteState → List ℕ → List ℕ
 before_write write file = take write.len (patched file write.at write.overwritten)
 
 -- the file as it was before the step
@@ -70,10 +70,14 @@ BeginsWithin None file = ⊤
 BeginsWithin (Some (Sync call)) file = ⊤
 BeginsWithin (Some (Write write)) file = write.at ≤ length file
 
+-- The first number is that of an earlier call; calls past the end of the count share its last number.
+abbrev pub IsEarlierCall : ℕ → ℕ → Type 0
+IsEarlierCall call later = raised call ≤ later
+
 -- each step was taken by an earlier call than the next one, and the last one by an earlier call than this
 abbrev pub AreOrdered : ℕ → List Step → Type 0
 AreOrdered call [] = ⊤
-AreOrdered call (step ∷ older) = Rose (call_of step) call × AreOrdered (call_of step) older
+AreOrdered call (step ∷ older) = IsEarlierCall (call_of step) call × AreOrdered (call_of step) older
 
 -- a write began within the file before it, and what it overwrote lies within the file after it
 abbrev pub CanUndo : Step → List ℕ → Type 0

@@ -12,8 +12,9 @@ use crate::Failed;
 /// A disk may tell its content, the images that a crash at this moment may leave, and the images of every crash that
 /// could have come since an earlier moment. No call changes whether it tells them, or whether they keep the rules.
 ///
-/// The rules: a crash may put anything in the ranges written since the last sync, and in whatever the file grew by;
-/// a byte that no such write touched survives. Once a sync has answered Ok, a crash gives back the content.
+/// The rules: after a crash the ranges written since the last sync, by writes that failed too, may hold anything. The
+/// file is no shorter than at that sync, and no longer than it was then or than the furthest of these ranges reaches. A
+/// byte that no such write touched survives. Once a sync has answered Ok, a crash gives back the content.
 pub trait Disk {
     /// The name of its file, what a read gives, what a crash may leave, and how often it has failed.
     ghost state: { Self → DiskState };
@@ -46,7 +47,8 @@ pub trait Disk {
         ensures cause { HasCause (state self.old).faults (state self.new).faults result };
 
     /// Writes over what is there from byte `at` on, and past the end. A write that failed leaves no byte of its range
-    /// to be relied on, and every other byte as it was. A crash before the next sync does the same.
+    /// to be relied on, and every other byte as it was. The file may then end anywhere between its old end and the end
+    /// of the range. A crash before the next sync does the same.
     fn write_at(&mut self, at: u64, bytes: &[u8]) -> Result<(), Failed>
         requires { IsWithin (state self.old).content at }
         ensures written { OnOk result (WritesAt (state self.old).content (state self.new).content at bytes.now) }

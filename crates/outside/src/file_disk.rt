@@ -1,5 +1,6 @@
 //! A file of the system as a disk.
-ghost use Rattle.std.specs.Prelude.{◌≡◌, ◌+◌, ◌≤◌, None, Some, length, if◌then◌else◌, is_err, IfOk, OnOk, OnErr};
+ghost use Rattle.std.specs.Prelude.{◌≡◌, ◌+◌, ◌≤◌, None, Some, length, if◌then◌else◌, is_err};
+ghost use Rattle.std.specs.Prelude.{IsErr, IfOk, OnOk, OnErr};
 ghost use Rattle.std.specs.String.{string_bytes};
 ghost use Rattle.outside.specs.Counts.{raised, HasCause};
 
@@ -56,18 +57,21 @@ impl<R: Files<File = File> + AllocGlobal> FileDisk<R> {
     fn open(&self, name: &str) -> io::Result<BoundFile>
         ensures { IfOk result (λ bound. string_bytes bound.name ≡ name.now) }
     {
+        let kept = String::from_str(self.rt.alloc(), name)?;
         let file = OpenOptions::new()
             .read(true)
             .write(true)
             .create(true)
             .open(&self.rt, name)?;
-        let name = String::from_str(self.rt.alloc(), name)?;
-        Ok(BoundFile { name, file })
+        Ok(BoundFile { name: kept, file })
     }
 }
 
 impl<R> FileDisk<R> {
-    fn file(&self) -> Result<&File, Failed> {
+    /// The file that is open.
+    fn file(&self) -> Result<&File, Failed>
+        ensures { self.now.name ≡ None → IsErr result }
+    {
         match &self.bound {
             Some(bound) => Ok(&bound.file),
             None => Err(Failed),
@@ -115,6 +119,7 @@ impl<R: Files<File = File> + AllocGlobal> Disk for FileDisk<R> {
     }
 
     fn len(&mut self) -> Result<u64, Failed>
+        ensures unbound { self.old.name ≡ None → IsErr result }
         ensures name { self.new.name ≡ self.old.name }
         ensures cause { HasCause self.old.faults self.new.faults result }
         ensures counted { self.new.faults ≡ (if is_err result then raised self.old.faults else self.old.faults) }
@@ -126,6 +131,7 @@ impl<R: Files<File = File> + AllocGlobal> Disk for FileDisk<R> {
     /// Reads until the buffer is full or the file ends. A call that a signal interrupted is made again.
     fn read_at(&mut self, at: u64, buf: &mut [u8]) -> Result<usize, Failed>
         ensures bound { IfOk result (λ n. n ≤ length buf.new) }
+        ensures unbound { self.old.name ≡ None → IsErr result }
         ensures name { self.new.name ≡ self.old.name }
         ensures cause { HasCause self.old.faults self.new.faults result }
         ensures counted { self.new.faults ≡ (if is_err result then raised self.old.faults else self.old.faults) }
@@ -137,20 +143,23 @@ impl<R: Files<File = File> + AllocGlobal> Disk for FileDisk<R> {
         self.counted(read)
     }
 
-    /// Writes until all bytes are written. A call that a signal interrupted is made again.
+    /// Writes until all bytes are written. A file that takes nothing has failed, and a call that a signal interrupted is
+    /// made again.
     fn write_at(&mut self, at: u64, bytes: &[u8]) -> Result<(), Failed>
+        ensures unbound { self.old.name ≡ None → IsErr result }
         ensures name { self.new.name ≡ self.old.name }
         ensures cause { HasCause self.old.faults self.new.faults result }
         ensures counted { self.new.faults ≡ (if is_err result then raised self.old.faults else self.old.faults) }
     {
         let written = match self.file() {
-            Ok(file) => file.write_all_at(bytes, at).map_err(|_| Failed),
+            Ok(file) => write_whole(file, at, bytes),
             Err(failed) => Err(failed),
         };
         self.counted(written)
     }
 
     fn sync(&mut self) -> Result<(), Failed>
+        ensures unbound { self.old.name ≡ None → IsErr result }
         ensures name { self.new.name ≡ self.old.name }
         ensures cause { HasCause self.old.faults self.new.faults result }
         ensures counted { self.new.faults ≡ (if is_err result then raised self.old.faults else self.old.faults) }
@@ -180,6 +189,30 @@ fn read_front(file: &File, at: u64, buf: &mut [u8]) -> Result<usize, Failed>
         match file.read_at(&mut buf[read..], at.saturating_add(read as u64)) {
             Ok(0) => return Ok(read),
             Ok(n) => read += n,
+            Err(error) => {
+                if error.kind() != ErrorKind::Interrupted {
+                    return Err(Failed);
+                }
+            }
+        }
+    }
+    Err(Failed)
+}
+
+/// Writes all bytes from byte `at` on. Where it fails, any part of them may be written.
+fn write_whole(file: &File, at: u64, bytes: &[u8]) -> Result<(), Failed> {
+    let mut rest = bytes;
+    let mut place = at;
+    for _ in 0..u64::MAX {
+        if rest.is_empty() {
+            return Ok(());
+        }
+        match file.write_at(rest, place) {
+            Ok(0) => return Err(Failed),
+            Ok(n) => {
+                rest = &rest[n..];
+                place = place.saturating_add(n as u64);
+            }
             Err(error) => {
                 if error.kind() != ErrorKind::Interrupted {
                     return Err(Failed);

@@ -1,10 +1,10 @@
 //! A disk in memory that fails at the calls that it is told to fail at, and tells what a crash may leave.
-ghost use Rattle.std.specs.Prelude.{◌≡◌, ◌-◌, ◌/◌, ◌<◌, ◌≤◌, ◌↔◌, ◌⊎◌, [], length, take, drop, min, if◌then◌else◌};
-ghost use Rattle.std.specs.Prelude.{None, Some, Contains, IsTrue, IsErr, IfOk, OnOk, OnErr};
-ghost use Rattle.outside.specs.Counts.{raised, Rose, HasCause};
+ghost use Rattle.std.specs.Prelude.{◌≡◌, ◌<◌, ◌≤◌, ◌↔◌, [], length, drop, if◌then◌else◌, None, Some, Contains};
+ghost use Rattle.std.specs.Prelude.{IsTrue, IsErr, IfOk, OnOk, OnErr};
+ghost use Rattle.outside.specs.Counts.{raised};
 ghost use Rattle.outside.specs.Crash.{ReadsAt, WritesAt, Torn, TearsAt, Follows, GoesOn};
 
-use crate::patch::patch;
+use crate::patch::{fill_front, patch};
 use crate::step::{PastWrite, Step};
 use crate::steps::{piece_len, put_front, undo_from};
 use crate::{Disk, Failed, NoMemory};
@@ -14,9 +14,8 @@ use std::marker::Model;
 /// A file in memory, with a list of the numbers of the calls of `Disk` that are to fail, counted from 0. It tells its
 /// content and its images, which keep the rules of `Disk`: a crash may leave whatever they allow. It has this one file,
 /// which every name chooses. Its faults are its listed calls, once they are made, and the calls for which memory ran
-/// out; these change nothing, listed or not.
-///
-/// It remembers each write and each sync that was done, by the bytes that were written and those that they replaced.
+/// out. A call for which memory ran out leaves the file and its images as they were, listed or not. The disk remembers
+/// each write and each sync that was done, by the bytes that were written and those that they replaced.
 #[derive(Debug, Drop)]
 pub struct MemDisk {
     bytes: Vec<u8>,
@@ -52,8 +51,9 @@ impl Model for MemDisk {
 }
 
 impl MemDisk {
-    ghost use Rattle.outside.specs.MemDisk.{as_began, piece_in, image_in, MayBeLeftWithin, after_write, after_sync};
-    ghost use Rattle.outside.specs.Steps.{AreOrdered, MightHaveLeft};
+    ghost use Rattle.outside.specs.MemDisk.{as_began, piece_in, image_in, MayBeLeftWithin};
+    ghost use Rattle.outside.specs.MemDiskCalls.{after_write, after_sync};
+    ghost use Rattle.outside.specs.Steps.{IsEarlierCall, AreOrdered, MightHaveLeft};
 
     /// A disk with these bytes in its file and nothing pending, no name, and no call made yet. It takes no memory before
     /// a call does.
@@ -161,7 +161,7 @@ impl MemDisk {
     ) -> Result<(), AllocError>
         requires within { at ≤ length self.old.bytes }
         requires done { done ≤ length piece.now }
-        requires call { Rose call self.old.calls }
+        requires call { IsEarlierCall call self.old.calls }
         requires ordered { AreOrdered call self.old.steps }
         ensures ok { OnOk result (self.new ≡ after_write self.old call at piece.now done) }
         ensures err { OnErr result (self.new ≡ self.old) }
@@ -176,7 +176,7 @@ impl MemDisk {
 
     /// Remembers a sync. Where memory runs out nothing is changed.
     fn note_sync(&mut self, call: u64) -> Result<(), AllocError>
-        requires call { Rose call self.old.calls }
+        requires call { IsEarlierCall call self.old.calls }
         requires ordered { AreOrdered call self.old.steps }
         ensures ok { OnOk result (self.new ≡ after_sync self.old call) }
         ensures err { OnErr result (self.new ≡ self.old) }
@@ -187,7 +187,8 @@ impl MemDisk {
 }
 
 impl Disk for MemDisk {
-    ghost use Rattle.outside.specs.MemDisk.{mem_disk, IsCounted, KeepsFile, WritesFront, Syncs};
+    ghost use Rattle.outside.specs.MemDisk.{mem_disk};
+    ghost use Rattle.outside.specs.MemDiskCalls.{IsCounted, KeepsFile, Remembers, WritesPiece, Syncs};
     ghost use Rattle.outside.specs.Steps.{MayLeave};
     ghost use Rattle.outside.specs.MemDiskFacts.{mem_disk_is_consistent};
 
@@ -200,8 +201,8 @@ impl Disk for MemDisk {
         ensures bound { OnOk result (self.new.name ≡ Some name.now) }
         ensures not_bound { OnErr result (self.new.name ≡ self.old.name) }
         ensures file { KeepsFile self.old self.new }
-        ensures cause { HasCause (mem_disk self.old).faults (mem_disk self.new).faults result }
         ensures counted { IsCounted self.old self.new result }
+        ensures remembers { Remembers self.old self.new }
     {
         if self.begin() {
             return Err(Failed);
@@ -220,8 +221,8 @@ impl Disk for MemDisk {
         ensures answer { IfOk result (λ n. n ≡ length self.old.bytes) }
         ensures name { self.new.name ≡ self.old.name }
         ensures file { KeepsFile self.old self.new }
-        ensures cause { HasCause (mem_disk self.old).faults (mem_disk self.new).faults result }
         ensures counted { IsCounted self.old self.new result }
+        ensures remembers { Remembers self.old self.new }
         ensures fed { self.new.starved ≡ self.old.starved }
     {
         if self.begin() {
@@ -238,8 +239,8 @@ impl Disk for MemDisk {
         ensures untouched { OnErr result (buf.new ≡ buf.old) }
         ensures name { self.new.name ≡ self.old.name }
         ensures file { KeepsFile self.old self.new }
-        ensures cause { HasCause (mem_disk self.old).faults (mem_disk self.new).faults result }
         ensures counted { IsCounted self.old self.new result }
+        ensures remembers { Remembers self.old self.new }
         ensures fed { self.new.starved ≡ self.old.starved }
     {
         if self.begin() {
@@ -258,17 +259,9 @@ impl Disk for MemDisk {
             (MayLeave self.old.bytes self.old.steps) (MayLeave self.new.bytes self.new.steps) }
         ensures name { self.new.name ≡ self.old.name }
         ensures goes_on { GoesOn (mem_disk self.old) (mem_disk self.new) }
-        ensures cause { HasCause (mem_disk self.old).faults (mem_disk self.new).faults result }
         ensures counted { IsCounted self.old self.new result }
-
-        // What it writes and remembers.
-        ensures whole { OnOk result (WritesFront self.old self.new at bytes.now (length bytes.now)) }
-        ensures half { Contains self.old.failing self.old.calls → ¬ Rose self.old.starved self.new.starved
-            → WritesFront self.old self.new at bytes.now (length bytes.now / 2) }
-        ensures nothing { self.old.starved < self.new.starved → KeepsFile self.old self.new }
-        ensures unlisted { ¬ Contains self.old.failing self.old.calls → OnErr result (KeepsFile self.old self.new) }
-        ensures half_or_nothing { OnErr result (WritesFront self.old self.new at bytes.now (length bytes.now / 2)
-            ⊎ KeepsFile self.old self.new) }
+        ensures remembers { Remembers self.old self.new }
+        ensures piece { WritesPiece self.old self.new at bytes.now result }
     {
         let call = self.calls();
         let at = at as usize;
@@ -289,9 +282,10 @@ impl Disk for MemDisk {
     fn sync(&mut self) -> Result<(), Failed>
         ensures synced { OnOk result (Syncs self.old self.new) }
         ensures failed { OnErr result (KeepsFile self.old self.new) }
+        ensures goes_on { GoesOn (mem_disk self.old) (mem_disk self.new) }
         ensures name { self.new.name ≡ self.old.name }
-        ensures cause { HasCause (mem_disk self.old).faults (mem_disk self.new).faults result }
         ensures counted { IsCounted self.old self.new result }
+        ensures remembers { Remembers self.old self.new }
     {
         let call = self.calls();
         if self.begin() {
@@ -302,17 +296,4 @@ impl Disk for MemDisk {
         }
         Ok(())
     }
-}
-
-/// Fills the front of `buf` with the bytes from byte `at` on, and answers how many.
-fn fill_front(bytes: &[u8], at: u64, buf: &mut [u8]) -> usize
-    ensures bound { result ≤ length buf.new }
-    ensures answer { ReadsAt (Some bytes.now) at buf.new result }
-    ensures behind { drop result buf.new ≡ drop result buf.old }
-{
-    let from = at.min(bytes.len() as u64) as usize;
-    let rest = &bytes[from..];
-    let n = rest.len().min(buf.len());
-    buf[..n].copy_from_slice(&rest[..n]);
-    n
 }

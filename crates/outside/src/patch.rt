@@ -1,6 +1,6 @@
-//! Bytes written over a list of bytes.
-ghost use Rattle.std.specs.Prelude.{◌≡◌, ◌+◌, ◌≤◌, length, OnOk, OnErr};
-ghost use Rattle.outside.specs.Crash.{patched};
+//! Bytes of a file in memory: written over what is there, and read.
+ghost use Rattle.std.specs.Prelude.{◌≡◌, ◌+◌, ◌≤◌, length, drop, Some, OnOk, OnErr};
+ghost use Rattle.outside.specs.Crash.{patched, ReadsAt};
 
 use std::alloc::AllocError;
 
@@ -23,4 +23,17 @@ pub fn copy_into(file: &mut [u8], at: usize, bytes: &[u8])
     ensures { file.new ≡ patched file.old at bytes.now }
 {
     file[at..at + bytes.len()].copy_from_slice(bytes);
+}
+
+/// Fills the front of `buf` with the bytes from byte `at` on, and answers how many.
+pub fn fill_front(file: &[u8], at: u64, buf: &mut [u8]) -> usize
+    ensures bound { result ≤ length buf.new }
+    ensures answer { ReadsAt (Some file.now) at buf.new result }
+    ensures behind { drop result buf.new ≡ drop result buf.old }
+{
+    let from = at.min(file.len() as u64) as usize;
+    let rest = &file[from..];
+    let n = rest.len().min(buf.len());
+    buf[..n].copy_from_slice(&rest[..n]);
+    n
 }

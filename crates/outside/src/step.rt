@@ -19,9 +19,9 @@ pub(crate) struct PastWrite {
 }
 
 impl Model for PastWrite {
-    ghost use Rattle.outside.specs.PastWrite.{PlainWrite};
+    ghost use Rattle.outside.specs.PastWrite.{PastWriteState};
 
-    ghost Value = { PlainWrite };
+    ghost Value = { PastWriteState };
 
     ghost view = { λ write. record {
       call = write.call;

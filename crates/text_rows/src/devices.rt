@@ -154,12 +154,43 @@ fn expect_pieces(rt: &impl Abort, disk: &MemDisk, want: &[u64]) {
 }
 
 #[test]
+fn a_failed_write_past_the_end_leaves_more_than_it_wrote(rt: HostRuntime) -> Result<(), Fail> {
+    let mut disk = disk_of(rt.alloc(), &[1, 2], &[0])?;
+    expect_saved(&rt, &mut disk, 2, &[5, 6, 7], Err(Failed));
+    assert_eq!(rt; disk.bytes(), [1, 2, 5].as_slice());
+    expect_image(&rt, &disk, 0, 0, &[1, 2])?;
+    expect_image(&rt, &disk, 0, 3, &[1, 2, 5, 6, 7])?;
+    expect_pieces(&rt, &disk, &[3]);
+    Ok(())
+}
+
+#[test]
+fn calls_between_writes_have_no_piece(rt: HostRuntime) -> Result<(), Fail> {
+    let mut disk = disk_of(rt.alloc(), &[1], &[3])?;
+    assert_eq!(rt; disk.bind("any"), Ok(()));
+    expect_saved(&rt, &mut disk, 1, &[2], Ok(()));
+    assert_eq!(rt; disk.len(), Ok(2));
+    assert_eq!(rt; disk.sync(), Err(Failed));
+    expect_saved(&rt, &mut disk, 0, &[9], Ok(()));
+    expect_image(&rt, &disk, 0, 0, &[1])?;
+    expect_image(&rt, &disk, 1, 0, &[1])?;
+    expect_image(&rt, &disk, 1, 1, &[1, 2])?;
+    expect_image(&rt, &disk, 2, 0, &[1, 2])?;
+    expect_image(&rt, &disk, 3, 0, &[1, 2])?;
+    expect_image(&rt, &disk, 4, 1, &[9, 2])?;
+    expect_pieces(&rt, &disk, &[0, 1, 0, 0, 1]);
+    Ok(())
+}
+
+#[test]
 fn a_file_gives_back_what_was_written(rt: HostRuntime) -> Result<(), Fail> {
     let name = "a_file_gives_back_what_was_written";
+    fs::remove_file(&rt, name).ok();
     let mut disk = FileDisk::new(rt);
     assert_eq!(rt; disk.len(), Err(Failed));
     assert_eq!(rt; disk.bind(""), Err(Failed));
     assert_eq!(rt; disk.bind(name), Ok(()));
+    assert_eq!(rt; disk.len(), Ok(0));
     assert_eq!(rt; disk.write_at(0, &[1, 2, 3, 4]), Ok(()));
     assert_eq!(rt; disk.write_at(2, &[7, 8, 9]), Ok(()));
     assert_eq!(rt; disk.sync(), Ok(()));
@@ -172,6 +203,34 @@ fn a_file_gives_back_what_was_written(rt: HostRuntime) -> Result<(), Fail> {
     assert_eq!(rt; buf, [1, 2, 7, 8]);
     assert_eq!(rt; disk.read_at(4, &mut buf), Ok(1));
     assert_eq!(rt; buf, [9, 2, 7, 8]);
+    assert_eq!(rt; disk.read_at(6, &mut buf), Ok(0));
     fs::remove_file(&rt, name)?;
     Ok(())
+}
+
+#[test]
+fn a_disk_is_the_file_that_was_bound_last(rt: HostRuntime) -> Result<(), Fail> {
+    let first = "a_disk_is_the_file_that_was_bound_first";
+    let last = "a_disk_is_the_file_that_was_bound_last";
+    fs::remove_file(&rt, first).ok();
+    fs::remove_file(&rt, last).ok();
+    let mut disk = FileDisk::new(rt);
+    assert_eq!(rt; disk.bind(first), Ok(()));
+    assert_eq!(rt; disk.write_at(0, &[1, 2]), Ok(()));
+    assert_eq!(rt; disk.bind(last), Ok(()));
+    assert_eq!(rt; disk.write_at(0, &[3]), Ok(()));
+    assert_eq!(rt; disk.bind(""), Err(Failed));
+    expect_file(&rt, &mut disk, &[3]);
+    assert_eq!(rt; disk.bind(first), Ok(()));
+    expect_file(&rt, &mut disk, &[1, 2]);
+    fs::remove_file(&rt, first)?;
+    fs::remove_file(&rt, last)?;
+    Ok(())
+}
+
+/// Expects these bytes, at most two, of the disk's file.
+fn expect_file<D: Disk>(rt: &impl Abort, disk: &mut D, want: &[u8]) {
+    let mut buf = [0u8; 3];
+    assert_eq!(rt; disk.read_at(0, &mut buf), Ok(want.len()));
+    assert!(rt; buf.starts_with(want));
 }

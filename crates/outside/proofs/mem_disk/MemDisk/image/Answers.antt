@@ -1,4 +1,4 @@
-use Rattle.std.proofs.Common.{◌≡◌, ◌<◌, ◌-◌, ◌^◌, List, reverse, sym, ap, ◌∙◌, subst, arith, rules}
+use Rattle.std.proofs.Common.{◌≡◌, ◌<◌, ◌-◌, ◌^◌, List, reverse, sym, subst, arith, rules}
 use Rattle.outside.specs.Steps.{began, step_in, with_front, BeginsWithin}
 use Rattle.outside.specs.MemDisk.{MemDiskState, MayBeLeftWithin}
 use Rattle.outside.specs.declared.step.Step.{Step}

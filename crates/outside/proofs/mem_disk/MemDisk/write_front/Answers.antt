@@ -1,6 +1,4 @@
-use Rattle.std.proofs.Common.{◌≡◌, ◌++◌, ◌∷◌, [], List, reverse, sym, ap, ◌∙◌, subst, arith, rules}
-use Rattle.outside.specs.Crash.{patched}
-use Rattle.outside.specs.PastWrite.{PlainWrite, write_over}
+use Rattle.std.proofs.Common.{sym, subst, rules}
 use Rattle.outside.specs.Steps.{AreOrdered}
 use Rattle.outside.specs.MemDisk.{MemDiskState}
 use Rattle.outside.proofs.StepLemmas.{pushed_write}
