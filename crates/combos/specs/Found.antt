@@ -1,12 +1,13 @@
 -- What is found for a box, and what it means that nothing is.
-use Rattle.std.specs.Prelude.{◌≡◌, ◌≢◌, Bool, true, false, List, [], ◌∷◌}
+use Rattle.std.specs.Prelude.{◌≡◌, ◌≢◌, ℕ, ◌<◌, ℤ, Bool, true, false, List, [], ◌∷◌}
 use Rattle.std.specs.List.{All}
 use Rattle.lin_model.specs.KeyAtom.{PlainKeyAtom}
 use Rattle.refutation.specs.declared.side.Side.{Side}
 use Rattle.refutation.specs.Bounds.{PlainBounds, is_empty}
 use Rattle.refutation.specs.Box.{PlainBox}
 use Rattle.refutation.specs.Leaf.{PlainLeaf, combo, fixed, empty, is_unit, is_sum_of_two, ClosedByOneAtom, ClosedBySumOfTwo}
-use Rattle.refutation.specs.Glance.{SomeUnitCloses, SomePairCloses}
+use Rattle.refutation.specs.Leaf.{fixed_closes}
+use Rattle.refutation.specs.Glance.{SomeUnitCloses, SomePairCloses, term_at, unit_closes}
 use Rattle.refutation.specs.Reading.{names_ne}
 
 -- each side is of an atom `form != c` of the key
@@ -37,3 +38,20 @@ pub record IsPlainest (key : List PlainKeyAtom) (box : PlainBox) (leaf : PlainLe
   pub empty_first : leaf ≢ empty → is_empty box.bounds ≡ false
   pub one_next : leaf ≢ empty → is_unit_term leaf ≡ false → ¬ SomeUnitCloses key box
   pub two_next : leaf ≢ empty → is_unit_term leaf ≡ false → is_sum_of_two leaf ≡ false → ¬ SomePairCloses key box
+
+-- the leaf is a term on a place of the row, and no unit on a place before closes the box
+pub record IsFirstUnit (key : List PlainKeyAtom) (box : PlainBox) (leaf : PlainLeaf) : Type 0 where
+  pub place : ℕ
+  pub factor : ℤ
+  pub unit : leaf ≡ combo (term_at key place factor ∷ [])
+  pub before : (k : ℕ) → k < place → unit_closes key box k ≡ false
+
+-- the atom is the first whose form has one value within the bounds, which fails its test
+pub record IsFirstFixed (key : List PlainKeyAtom) (bounds : PlainBounds) (i : ℕ) : Type 0 where
+  pub closes : fixed_closes key bounds i ≡ true
+  pub before : (k : ℕ) → k < i → fixed_closes key bounds k ≡ false
+
+-- among units the first that closes the box is given, and among forms with one value the first that does
+pub record IsFirstAmongEquals (key : List PlainKeyAtom) (box : PlainBox) (leaf : PlainLeaf) : Type 0 where
+  pub of_units : is_empty box.bounds ≡ false → SomeUnitCloses key box → IsFirstUnit key box leaf
+  pub of_values : (i : ℕ) → leaf ≡ fixed i → IsFirstFixed key box.bounds i

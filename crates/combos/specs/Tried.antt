@@ -4,14 +4,30 @@ use Rattle.lin_model.specs.KeyAtom.{PlainKeyAtom}
 use Rattle.refutation.specs.declared.leaf.LeafTerm.{LeafTerm}
 use Rattle.refutation.specs.Box.{PlainBox}
 use Rattle.refutation.specs.Glance.{place_count, term_at}
-use Rattle.refutation.specs.Leaf.{PlainLeaf, Closes, combo_closes, is_unit, is_sum_of_two}
+use Rattle.refutation.specs.Leaf.{PlainLeaf, Closes, combo, combo_closes, is_unit, is_sum_of_two}
 use Rattle.combos.specs.Corner.{corner_value}
-use Rattle.combos.specs.Found.{is_unit_term}
+use Rattle.combos.specs.Found.{is_unit_term, IsFirstUnit}
 
 -- the leaf closes the box, and is one unit
 pub record IsClosingUnit (key : List PlainKeyAtom) (box : PlainBox) (leaf : PlainLeaf) : Type 0 where
   pub closes : Closes key box leaf
   pub unit : is_unit_term leaf ≡ true
+
+-- and it is on this place of the row
+pub record IsClosingUnitAt (key : List PlainKeyAtom) (box : PlainBox) (place : ℕ) (leaf : PlainLeaf) : Type 0 where
+  pub closing : IsClosingUnit key box leaf
+  pub factor : ℤ
+  pub at : leaf ≡ combo (term_at key place factor ∷ [])
+
+-- or on the first place that closes the box so
+pub record IsFirstClosingUnit (key : List PlainKeyAtom) (box : PlainBox) (leaf : PlainLeaf) : Type 0 where
+  pub closing : IsClosingUnit key box leaf
+  pub first : IsFirstUnit key box leaf
+
+-- the leaf is a combination
+pub record IsCombination (leaf : PlainLeaf) : Type 0 where
+  pub terms : List LeafTerm
+  pub is : leaf ≡ combo terms
 
 -- the leaf closes the box, and is the sum of two units
 pub record IsClosingPair (key : List PlainKeyAtom) (box : PlainBox) (leaf : PlainLeaf) : Type 0 where

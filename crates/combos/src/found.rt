@@ -3,7 +3,8 @@
 ghost use Rattle.std.specs.Prelude.{◌≡◌, ◌≢◌, ◌≤◌, None, false, IfSome, length};
 ghost use Rattle.refutation.specs.Leaf.{Closes, leaf_of, empty};
 ghost use Rattle.combos.specs.AtCorners.{AreWorths};
-ghost use Rattle.combos.specs.Found.{AreNeSides, box_of, StaysOpen, IsPlainest};
+ghost use Rattle.combos.specs.Found.{AreNeSides, box_of, StaysOpen, IsPlainest, IsFirstAmongEquals};
+ghost use Rattle.combos.specs.Tried.{IsCombination};
 
 use crate::elimination::eliminate;
 use crate::fixed::closing_fixed;
@@ -17,12 +18,15 @@ use refutation::{Bounds, Leaf, Side, closes, glances_try_units};
 /// nor the sum of two closes it, where an atom may be one of the key or a side, taken by the factor 1, or by -1 on `=`.
 ///
 /// The plainest is given: `Empty` before a combination, a single unit before a sum of two, and that before anything
-/// longer, in which variables are eliminated within eight terms; a form with one value comes last. It takes no memory.
+/// longer, in which variables are eliminated within eight terms; a form with one value comes last. Among units the first
+/// of the row is given, and among forms with one value that of the first atom. It takes no memory.
 pub fn find_combo(key: &Key, bounds: &Bounds, sides: &[Side]) -> Option<Leaf>
     requires sides { AreNeSides key.now sides.now }
     requires few { length sides.now ≤ 65536 }
     ensures closes { IfSome result (λ leaf. Closes key.now (box_of bounds.now sides.now) (leaf_of leaf)) }
     ensures plainest { IfSome result (λ leaf. IsPlainest key.now (box_of bounds.now sides.now) (leaf_of leaf)) }
+    ensures first { IfSome result (λ leaf.
+        IsFirstAmongEquals key.now (box_of bounds.now sides.now) (leaf_of leaf)) }
     ensures none { result ≡ None → StaysOpen key.now (box_of bounds.now sides.now) }
 {
     glances_try_units();
@@ -50,6 +54,7 @@ fn closing_combination(key: &Key, bounds: &Bounds, sides: &[Side], worths: &Wort
     requires few { length sides.now ≤ 65536 }
     requires worths { AreWorths key.now (box_of bounds.now sides.now) worths.now }
     ensures closes { IfSome result (λ leaf. Closes key.now (box_of bounds.now sides.now) (leaf_of leaf)) }
+    ensures combination { IfSome result (λ leaf. IsCombination (leaf_of leaf)) }
 {
     match eliminate(key, bounds, sides, worths) {
         None => None,

@@ -7,7 +7,7 @@ ghost use Rattle.refutation.specs.Glance.{SomeUnitCloses, unit_closes, place_cou
 ghost use Rattle.refutation.specs.Leaf.{leaf_of, combo_closes};
 ghost use Rattle.combos.specs.AtCorners.{AreWorths, IsWeighed};
 ghost use Rattle.combos.specs.Found.{box_of};
-ghost use Rattle.combos.specs.Tried.{IsClosingUnit};
+ghost use Rattle.combos.specs.Tried.{IsClosingUnitAt, IsFirstClosingUnit};
 
 use crate::term::{leaf_of_one, place_count};
 use crate::worths::{UnitTerm, Worths};
@@ -20,7 +20,7 @@ pub fn closing_unit(key: &Key, bounds: &Bounds, sides: &[Side], worths: &Worths)
     requires full { is_empty bounds.now ≡ false }
     requires worths { AreWorths key.now (box_of bounds.now sides.now) worths.now }
     ensures { MatchOption result (¬ SomeUnitCloses key.now (box_of bounds.now sides.now))
-        (λ leaf. IsClosingUnit key.now (box_of bounds.now sides.now) (leaf_of leaf)) }
+        (λ leaf. IsFirstClosingUnit key.now (box_of bounds.now sides.now) (leaf_of leaf)) }
 {
     for place in 0..place_count(key, sides) {
         if let Some(leaf) = unit_at(key, bounds, sides, worths, place) {
@@ -43,7 +43,7 @@ fn unit_at(
     requires worths { AreWorths key.now (box_of bounds.now sides.now) worths.now }
     requires place { place < place_count key.now sides.now }
     ensures { MatchOption result (unit_closes key.now (box_of bounds.now sides.now) place ≡ false)
-        (λ leaf. IsClosingUnit key.now (box_of bounds.now sides.now) (leaf_of leaf)) }
+        (λ leaf. IsClosingUnitAt key.now (box_of bounds.now sides.now) place (leaf_of leaf)) }
 {
     combinations_are_positive();
     key.keeps_limits();

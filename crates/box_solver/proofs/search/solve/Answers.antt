@@ -19,6 +19,11 @@ boxes-init c =
 
 -- ---- a leaf
 
+pub go_on-requires-clause-short : goal.go_on-requires-clause-short
+go_on-requires-clause-short c =
+    (stands-box c.args.key.now c.args.budget c.args.region.now c.boxes.region c.boxes.splits c.boxes.position
+    c.boxes.invariant).short
+
 pub returns-then-not-go_on : goal.returns-then-not-go_on
 returns-then-not-go_on c =
     let key = c.args.key.now in
