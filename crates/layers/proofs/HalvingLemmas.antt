@@ -2,17 +2,19 @@
 use Rattle.std.proofs.Common.{◌≡◌, ℕ, suc, ◌+◌, ◌*◌, ◌^◌, ◌<◌, ◌≤◌, ◌∙◌, List, [], ◌∷◌, ◌++◌, length, take, drop}
 use Rattle.std.proofs.Common.{get_or}
 use Rattle.std.proofs.Common.{inl, inr, arith, sym, ap, subst}
+use Rattle.std.specs.List.{All}
 use Rattle.std.proofs.Math.Pow.{pow-lt}
 use Rattle.std.proofs.Math.Nat.{eq-or-lt_of_le, pow-suc}
 use Rattle.std.proofs.lemmas.Bool.{cases_lt}
 use Rattle.std.proofs.Math.ListN.{get_or-append}
 use Rattle.std.proofs.Math.Seq.{get_or-append_seam}
-use Rattle.std.proofs.lemmas.List.{length-append, length-take-le, get_or-take, append_assoc}
+use Rattle.std.proofs.lemmas.List.{append-nil, length-append, length-take-le, get_or-take, append_assoc}
 use Rattle.std.proofs.lemmas.List.Elements.{All-append, All-take, All-cons, All-nil}
 use Rattle.cert_check.specs.declared.entry.Entry.{Entry}
+use Rattle.cert_check.specs.Decides.{IsChecked}
 use Rattle.cert_check.specs.Machine.{max_entries}
 use Rattle.layers.specs.Layers.{joined}
-use Rattle.layers.specs.Halving.{AreHalving, IsVersion, IsWithinDigits}
+use Rattle.layers.specs.Halving.{AreHalving, AreShortFrom, IsVersion, IsWithinDigits}
 use Rattle.layers.proofs.JoinLemmas.{joined-push, joined-parts}
 
 -- without the first layer
@@ -115,6 +117,20 @@ count_fits layers halving few = few_layers layers halving 21 (few_enough few)
     few_enough : length (joined layers) ≤ max_entries → length (joined layers) < 2 ^ 21
     few_enough le = omega (arith, le)
 
+-- a version of one layer
+pub one_version : (entries : List Entry) (count : ℕ) → 0 < length entries → count ≡ length entries
+    → length entries ≤ max_entries → All IsChecked entries → IsVersion (entries ∷ []) count
+one_version entries count some counted few checked = record {
+  halving = record {
+    some = All-cons (λ (layer : List Entry). 0 < length layer) entries [] some
+        (All-nil (λ (layer : List Entry). 0 < length layer));
+    halve = λ k c d lt. absurd (omega (arith, lt));
+  };
+  counted = counted ∙ ap (λ (es : List Entry). length es) (sym (append-nil entries));
+  few = omega (arith, counted, few);
+  checked = subst (λ (es : List Entry). All IsChecked es) (sym (append-nil entries)) checked;
+}
+
 -- the layers with an entry added: those behind the kept ones are one layer with it
 module _ (layers out : List (List Entry)) (kept : ℕ) (e : Entry)
     (out_is : out ≡ take kept layers ++ (joined (drop kept layers) ++ e ∷ []) ∷ []) where
@@ -132,11 +148,11 @@ module _ (layers out : List (List Entry)) (kept : ℕ) (e : Entry)
       (halving_with layers kept (joined (drop kept layers) ++ e ∷ []) within halving (omega arith)
       (λ k d is. let t = twice k d is in omega arith))
 
-  pub added_version : (count : ℕ) → IsVersion layers count → count < max_entries → kept ≤ length layers
+  pub added_version : (count : ℕ) → IsVersion layers count → IsChecked e → count < max_entries → kept ≤ length layers
       → ((k : ℕ) (d : List Entry) → k + 1 ≡ kept
       → 2 * (length (joined (drop kept layers)) + 1) ≤ length (get_or layers k d))
       → IsVersion out (count + 1)
-  added_version count version room within twice = record {
+  added_version count version e_checked room within twice = record {
     halving = added_halving version.halving within twice;
     counted = omega (
       arith,
@@ -145,4 +161,32 @@ module _ (layers out : List (List Entry)) (kept : ℕ) (e : Entry)
       length-append (joined layers) (e ∷ []),
     );
     few = omega arith;
+    checked = subst (λ (es : List Entry). All IsChecked es) (sym added_entries)
+        (All-append IsChecked (joined layers) (e ∷ []) version.checked
+        (All-cons IsChecked e [] e_checked (All-nil IsChecked)));
   }
+
+-- one layer more is short
+pub short_more : (layers front earlier : List (List Entry)) (last it : List Entry) (behind len : ℕ)
+    → front ≡ take (length front) layers → front ≡ earlier ++ last ∷ [] → it ≡ last → len ≡ length it
+    → behind ≡ length (joined (drop (length front) layers)) + 1 → len < 2 * behind → AreShortFrom (length front) layers
+    → AreShortFrom (length earlier) layers
+short_more layers front earlier last it behind len prefix parts same len_is behind_is less so_far k d from lt =
+    let longer : length front ≡ length earlier + 1 =
+    ap (λ (ls : List (List Entry)). length ls) parts ∙ length-append earlier (last ∷ []) in
+    elim (cases_lt k (length front)) [
+      | inr behind_front ↦ so_far k d behind_front lt
+      | inl inside ↦ (
+          let at : k ≡ length earlier = omega (arith, longer, from, inside) in
+          let here : get_or layers k d ≡ last =
+          sym (get_or-take (length front) layers k d inside)
+          ∙ (ap (λ (ls : List (List Entry)). get_or ls k d) (sym prefix ∙ parts)
+          ∙ (ap (λ (n : ℕ). get_or (earlier ++ last ∷ []) n d) at ∙ get_or-append_seam earlier last [] d)) in
+          let size : length (get_or layers k d) ≡ len =
+          ap (λ (l : List Entry). length l) (here ∙ sym same) ∙ sym len_is in
+          let next : length front ≡ k + 1 = omega (arith, longer, at) in
+          let rest : behind ≡ length (joined (drop (k + 1) layers)) + 1 =
+          behind_is ∙ ap (λ (n : ℕ). length (joined (drop n layers)) + 1) next in
+          omega (arith, size, rest, less)
+          )
+    ]

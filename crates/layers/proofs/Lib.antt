@@ -7,3 +7,4 @@ mod LayerLemmas
 mod NodeLemmas
 mod FlagLemmas
 mod FlagGrowth
+mod UndecidedLemmas

@@ -11,6 +11,12 @@ abbrev pub joined : List (List Entry) → List Entry
 joined [] = []
 joined (layer ∷ layers) = layer ++ joined layers
 
+-- the entry decides a key that none of these entries decides
+pub record DecidesMore (entries : List Entry) (e : Entry) : Type 0 where
+  pub key : List PlainKeyAtom
+  pub decides : Decides e key
+  pub undecided : NoneDecides entries key
+
 -- none of the entries from place n up to place m, which is at most their number, decides the key
 abbrev pub NoneBetween : List Entry → List PlainKeyAtom → ℕ → ℕ → Type 0
 NoneBetween entries q n m = (k : ℕ) (d : Entry) → n ≤ k → k < m → ¬ Decides (slice_index_or entries k d) q

@@ -1,7 +1,7 @@
 //! One layer of a list of entries.
-ghost use Rattle.std.specs.Prelude.{◌≡◌, ◌↔◌, ◌+◌, ◌*◌, ◌^◌, ◌<◌, ◌≤◌, ℕ, [], Some, IfOk, IsSomeAnd, IsTrue, length, slice_get, take};
+ghost use Rattle.std.specs.Prelude.{◌≡◌, ◌↔◌, ◌+◌, ◌*◌, ◌^◌, ◌<◌, ◌≤◌, ℕ, [], Some, All, IfOk, IsSomeAnd, IsTrue, length, slice_get, take};
 ghost use Rattle.cert_check.specs.Machine.{max_entries};
-ghost use Rattle.cert_check.specs.Decides.{NoneDecides, IsFirst, key_of};
+ghost use Rattle.cert_check.specs.Decides.{IsChecked, NoneDecides, IsFirst, key_of};
 ghost use Rattle.layers.specs.Layers.{IsFirstFrom};
 ghost use Rattle.layers.specs.Tries.{LayerHasNodes};
 
@@ -41,7 +41,8 @@ impl Layer {
     /// The layer of these entries, at most 2^20.
     pub fn of(alloc: Global, entries: Vec<Shared<Entry>>) -> Result<Layer, NoMemory>
         requires { length entries.items ≤ max_entries }
-        ensures { IfOk result (λ layer. layer ≡ entries.items) }
+        ensures entries { IfOk result (λ layer. layer ≡ entries.items) }
+        ensures checked { IfOk result (λ layer. All IsChecked layer) }
     {
         let Tries { satisfied, refuted } = tries_of(alloc, &entries)?;
         Ok(Layer {
@@ -94,14 +95,17 @@ impl Layer {
         }
     }
 
-    /// The least place at or after n, from 0, of an entry that decides the key. The tries are walked; only where they
-    /// find one before n are the entries from n on tried one after another. So where none before n decides the key, it
-    /// takes at most `nodes()` steps for each of its atoms.
+    /// The least place at or after n, from 0, of an entry that decides the key. The tries are walked where the layer is
+    /// longer than n; only where they find a place before n are the entries from n on tried one after another. So where
+    /// none before n decides the key, it takes at most `nodes()` steps for each of its atoms.
     pub fn first_from<L: Ledger>(&self, n: u32, asked: &Asked, steps: &mut Steps<L>) -> Option<u32>
         ensures first { IsFirstFrom n self.now asked.now result }
         ensures cost { NoneDecides (take n self.now) asked.now → (nodes : ℕ) → LayerHasNodes self.now nodes
             → steps.new ≤ steps.old + nodes * length asked.now }
     {
+        if n >= self.len() {
+            return None;
+        }
         let first = self.first(asked, steps);
         if is_before(first, n) {
             return self.scan_from(n, asked.key(), steps);

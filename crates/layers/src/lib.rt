@@ -2,6 +2,7 @@
 #![tactic(auto)]
 
 mod firsts;
+mod growth;
 mod laws;
 mod layer;
 mod sharing;

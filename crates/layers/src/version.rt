@@ -1,19 +1,20 @@
 //! A frozen list of entries.
-ghost use Rattle.std.specs.Prelude.{◌≡◌, ◌↔◌, ◌+◌, ◌*◌, ◌<◌, ◌≤◌, [], ◌∷◌, ◌++◌, Some, IfOk, IfSome, IsTrue, length, take, drop};
+ghost use Rattle.std.specs.Prelude.{◌≡◌, ◌↔◌, ◌+◌, ◌*◌, ◌<◌, ◌≤◌, [], ◌∷◌, ◌++◌, Some, IfOk, IfSome, IsTrue, length, take};
 ghost use Rattle.std.specs.Prelude.{slice_get};
-ghost use Rattle.std.specs.Prelude.{slice_index_or, ℕ, List};
+ghost use Rattle.std.specs.Prelude.{ℕ};
 ghost use Rattle.cert_check.specs.Decides.{IsFirstDeciding, NoneDecides};
 ghost use Rattle.cert_check.specs.Machine.{max_entries};
-ghost use Rattle.cert_check.specs.declared.entry.Entry.{Entry as AnyEntry};
-ghost use Rattle.layers.specs.Layers.{IsFirstAtFrom, IsFirstFrom, joined};
+ghost use Rattle.layers.specs.Layers.{DecidesMore, IsFirstAtFrom, IsFirstFrom, joined};
 ghost use Rattle.layers.specs.Tries.{LayersHaveNodes};
-ghost use Rattle.layers.specs.Halving.{AreHalving, IsVersion, IsWithinDigits};
+ghost use Rattle.layers.specs.Halving.{AreGrown, AreHalving, IsVersion, IsWithinDigits};
 
 use crate::firsts::{Firsts, own_place, with_flag};
+use crate::growth::{entries_of, kept_layers, with_entry};
+use crate::laws::later_firsts_are_first;
 use crate::layer::Layer;
-use crate::sharing::{share_into, with_last};
+use crate::sharing::with_last;
 use atom_implies::Steps;
-use cert_check::{Entry, Shared};
+use cert_check::{Entry, Shared, deciding_entries_settle, entries_decide_their_keys};
 use key_tree::Asked;
 use lin_model::Key;
 use outside::NoMemory;
@@ -72,10 +73,29 @@ impl Version {
     /// one new layer with it; this version and all others stay as they are.
     pub fn add(&self, alloc: Global, entry: Shared<Entry>) -> Result<Version, NoMemory>
         requires { length (joined self.now) < max_entries }
-        ensures { IfOk result (λ version. joined version ≡ joined self.now ++ entry ∷ []) }
+        ensures entries { IfOk result (λ version. joined version ≡ joined self.now ++ entry ∷ []) }
+        ensures grown { IfOk result (AreGrown self.now entry) }
     {
-        let is_first = self.is_undecided(entry.get().key());
+        entries_decide_their_keys();
+        self.add_seen(alloc, entry, 0)
+    }
+
+    /// The same of an entry that decides a key which none of the first `seen` entries decides. Those are not looked at.
+    pub fn add_seen(
+        &self,
+        alloc: Global,
+        entry: Shared<Entry>,
+        seen: u32,
+    ) -> Result<Version, NoMemory>
+        requires room { length (joined self.now) < max_entries }
+        requires more { DecidesMore (take seen (joined self.now)) entry }
+        ensures entries { IfOk result (λ version. joined version ≡ joined self.now ++ entry ∷ []) }
+        ensures grown { IfOk result (AreGrown self.now entry) }
+    {
+        deciding_entries_settle();
+        entries_decide_their_keys();
         let kept = kept_layers(&self.layers);
+        let is_first = self.is_undecided(entry.get().key(), seen);
         let firsts = with_flag(alloc, &self.firsts, kept, is_first)?;
         let layers = with_entry(alloc, &self.layers, kept, entry)?;
         Ok(Version {
@@ -140,6 +160,9 @@ impl Version {
         ensures cost { NoneDecides (take n (joined self.now)) key.now → (nodes : ℕ) → LayersHaveNodes self.now nodes
             → steps.new ≤ steps.old + nodes * length key.now }
     {
+        if n >= self.len {
+            return None;
+        }
         if let Some(place) = self.own_from(n, key) {
             return Some(place);
         }
@@ -157,23 +180,27 @@ impl Version {
         }
     }
 
-    /// Whether no entry decides the key.
-    fn is_undecided(&self, key: &Key) -> bool
+    /// Whether no entry decides the key, where none of the first `seen` entries does.
+    fn is_undecided(&self, key: &Key, seen: u32) -> bool
+        requires { NoneDecides (take seen (joined self.now)) key.now }
         ensures { IsTrue result ↔ NoneDecides (joined self.now) key.now }
     {
-        first_by::<Brand>(self, key, Blank::new(1)).is_none()
+        first_by::<Brand>(self, seen, key, Blank::new(1)).is_none()
     }
 }
 
-/// The least place of an entry that decides the key, by a ledger for the steps that nobody reads.
-fn first_by<L: Ledger>(version: &Version, key: &Key, blank: Blank) -> Option<u32>
+/// The least place of an entry that decides the key, where none of the first n entries does, by a ledger for the steps
+/// that nobody reads.
+fn first_by<L: Ledger>(version: &Version, n: u32, key: &Key, blank: Blank) -> Option<u32>
     requires name { blank.name ≡ L.name }
     requires parts { blank.parts ≡ L.parts }
     requires some { 0 < blank.parts }
+    requires none { NoneDecides (take n (joined version.now)) key.now }
     ensures { IsFirstDeciding (joined version.now) key.now result }
 {
+    later_firsts_are_first();
     let mut steps: Steps<L> = Steps::new(blank);
-    version.first(key, &mut steps)
+    version.first_from(n, key, &mut steps)
 }
 
 /// How many layers there are.
@@ -220,70 +247,6 @@ fn first_in<L: Ledger>(
         start += layer.len();
     }
     None
-}
-
-/// The layers with the entry at the end. Those behind the kept ones become one with it.
-fn with_entry(
-    alloc: Global,
-    layers: &[Shared<Layer>],
-    kept: usize,
-    entry: Shared<Entry>,
-) -> Result<Vec<Shared<Layer>>, NoMemory>
-    requires kept { kept ≤ length layers.now }
-    requires room { length (joined layers.now) < max_entries }
-    ensures { IfOk result (λ more. more.items
-        ≡ take kept layers.now ++ (joined (drop kept layers.now) ++ entry ∷ []) ∷ []) }
-{
-    let (front, behind) = layers.split_at(kept);
-    let last = joined_with(alloc, behind, entry)?;
-    let more = with_last(alloc, front, last)?;
-    Ok(more)
-}
-
-/// How many layers at the front stay when an entry is added: up to the last that is at least twice as long as all that
-/// is behind it, with the entry.
-fn kept_layers(layers: &[Shared<Layer>]) -> usize
-    requires { length (joined layers.now) < max_entries }
-    ensures within { result ≤ length layers.now }
-    ensures long { (k : ℕ) (d : List AnyEntry) → k + 1 ≡ result
-        → 2 * (length (joined (drop result layers.now)) + 1) ≤ length (slice_index_or layers.now k d) }
-{
-    let mut front = layers;
-    let mut behind = 1;
-    while let [earlier @ .., last] = front {
-        let len = last.get().len();
-        if len >= 2 * behind {
-            break;
-        }
-        behind += len;
-        front = earlier;
-    }
-    front.len()
-}
-
-/// One layer of the entries of these layers, and the entry behind them.
-fn joined_with(
-    alloc: Global,
-    layers: &[Shared<Layer>],
-    entry: Shared<Entry>,
-) -> Result<Layer, NoMemory>
-    requires { length (joined layers.now) < max_entries }
-    ensures { IfOk result (λ layer. layer ≡ joined layers.now ++ entry ∷ []) }
-{
-    let mut entries = entries_of(alloc, layers)?;
-    entries.push(entry)?;
-    Layer::of(alloc, entries)
-}
-
-/// One owner more of each entry of these layers.
-fn entries_of(alloc: Global, layers: &[Shared<Layer>]) -> Result<Vec<Shared<Entry>>, NoMemory>
-    ensures { IfOk result (λ entries. entries.items ≡ joined layers.now) }
-{
-    let mut entries = Vec::new(alloc);
-    for layer in layers {
-        share_into(&mut entries, layer.get().entries())?;
-    }
-    Ok(entries)
 }
 
 /// The entry at this place of the layers.

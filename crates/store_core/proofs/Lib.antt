@@ -1,2 +1,3 @@
 mod FlightLemmas
 mod TurnLemmas
+mod SeenLemmas

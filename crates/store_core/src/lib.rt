@@ -3,6 +3,7 @@
 
 mod laws;
 mod machine;
+mod seen;
 mod turns;
 
 pub use laws::cores_take_turns;

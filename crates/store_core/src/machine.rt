@@ -11,8 +11,9 @@ ghost use Rattle.store_core.specs.Steps.{CannotBegin, CannotEnd, Ends, Enters, I
 ghost use Rattle.store_core.specs.Steps.{end_in};
 
 use crate::laws::cores_take_turns;
+use crate::seen::seen_by;
 use crate::turns::{Enter, How};
-use cert_check::{Ending, Entry, Event, Flight, Shared};
+use cert_check::{Ending, Entry, Event, Flight, Shared, flights_begin_rightly};
 use layers::Version;
 use lin_model::Key;
 use outside::NoMemory;
@@ -198,8 +199,11 @@ impl Core {
         ensures { MatchResult result (Keeps seat entry self.old self.new) (λ _. self.new ≡ self.old) }
     {
         cores_take_turns();
+        flights_begin_rightly();
         let place = self.len();
-        let version = Shared::new(alloc, self.version.get().add(alloc, entry)?)?;
+        let seen = seen_by(&self.events, seat);
+        let added = self.version.get().add_seen(alloc, entry, seen)?;
+        let version = Shared::new(alloc, added)?;
         let answer = version.share()?;
         self.version = version;
         end_flight(

@@ -1,48 +1,7 @@
-use Rattle.std.proofs.Common.{◌≡◌, ◌+◌, ◌*◌, ◌≤◌, ◌∙◌, ℕ, Bool, [], ◌∷◌, ◌++◌, List, length, take, drop, get_or, arith, ap, sym, subst}
-use Rattle.lin_model.specs.KeyAtom.{PlainKeyAtom}
-use Rattle.cert_check.specs.Decides.{NoneDecides, key_of}
-use Rattle.cert_check.specs.declared.entry.Entry.{Entry}
 use Rattle.layers.specs.Layers.{joined}
-use Rattle.layers.specs.Firsts.{flags_of}
-use Rattle.layers.proofs.HalvingLemmas.{added_entries, added_version}
-use Rattle.layers.proofs.FlagGrowth.{added_firsts}
+use Rattle.layers.proofs.UndecidedLemmas.{more_than_none}
 use Rattle.layers.proofs.version.Version.add.Goals as goal
 
--- the layers with the entry, by those that the version has
-out_is : (c : goal.In_ok-layers) → c.in_ok-layers.layers.items
-    ≡ take c.kept_layers-kept.result c.self.inside.layers.items
-    ++ (joined (drop c.kept_layers-kept.result c.self.inside.layers.items) ++ c.args.entry ∷ []) ∷ []
-out_is c =
-    subst (λ (ls : List (List Entry)). c.in_ok-layers.layers.items
-    ≡ take c.kept_layers-kept.result ls ++ (joined (drop c.kept_layers-kept.result ls) ++ c.args.entry ∷ []) ∷ [])
-    c.deref-3.ensures.value (c.in_ok-layers.ensures {u = tt})
-
-pub invariant_of-result : goal.invariant_of-result
-invariant_of-result c =
-    let layers : List (List Entry) = c.self.inside.layers.items in
-    let kept : ℕ = c.kept_layers-kept.result in
-    let entries : joined layers ≡ joined c.args.self.now = ap (λ (ls : List (List Entry)). joined ls) c.self.view_is in
-    let count = ap (λ (es : List Entry). length es) entries in
-    let within : kept ≤ length layers =
-    subst (λ (ls : List (List Entry)). kept ≤ length ls) c.deref.ensures.value c.kept_layers-kept.ensures.within in
-    let news_are = subst (λ (fs : List (List Bool)). c.in_ok-firsts.firsts.items
-    ≡ take kept fs ++ (flags_of (drop kept fs) ++ c.is_undecided-is_first.result ∷ []) ∷ [])
-    c.deref-2.ensures.value (c.in_ok-firsts.ensures {u = tt}) in (
-      added_version layers c.in_ok-layers.layers.items kept c.args.entry (out_is c) c.self.inside.len c.self.invariant.0
-          (omega (arith, c.self.invariant.0.counted, count)) within
-          (subst (λ (ls : List (List Entry)). (k : ℕ) (d : List Entry) → k + 1 ≡ kept
-          → 2 * (length (joined (drop kept ls)) + 1) ≤ length (get_or ls k d)) c.deref.ensures.value
-          c.kept_layers-kept.ensures.long),
-      added_firsts layers c.in_ok-layers.layers.items c.self.inside.firsts.items c.in_ok-firsts.firsts.items kept
-          c.args.entry c.is_undecided-is_first.result c.self.invariant.1 (out_is c) news_are
-          (λ undecided.
-          let none : NoneDecides (joined c.args.self.now) c.key.result.now = c.is_undecided-is_first.ensures.0 undecided in
-          subst (λ (es : List Entry). NoneDecides es (key_of c.args.entry)) (sym entries)
-          (subst (λ (key : List PlainKeyAtom). NoneDecides (joined c.args.self.now) key)
-          (c.key.ensures.key ∙ ap key_of c.get.ensures) none)),
-    )
-
-pub returns : goal.returns
-returns c =
-    added_entries c.self.inside.layers.items c.in_ok-layers.layers.items c.kept_layers-kept.result c.args.entry (out_is c)
-    ∙ ap (λ (ls : List (List Entry)). joined ls ++ c.args.entry ∷ []) c.self.view_is
+pub add_seen-requires-clause-more : goal.add_seen-requires-clause-more
+add_seen-requires-clause-more c =
+    more_than_none c.entries_decide_their_keys.ensures (joined c.args.self.now) c.args.entry

@@ -1,12 +1,15 @@
-use Rattle.std.proofs.Common.{◌≡◌, ◌∙◌, ◌∷◌, [], ◌++◌, ℕ, ap, rules, List, length, subst, sym}
-use Rattle.layers.specs.Layers.{joined}
+use Rattle.std.proofs.Common.{◌≡◌, ◌∙◌, ◌∷◌, [], ◌++◌, ℕ, ap, rules, List, length, take, ◌⊎◌, subst, sym}
+use Rattle.layers.specs.Layers.{joined, DecidesMore}
 use Rattle.cert_check.specs.declared.entry.Entry.{Entry}
+use Rattle.cert_check.specs.declared.event.Event.{Event}
 use Rattle.cert_check.specs.declared.event.Event.TheVariants.{Ended}
 use Rattle.cert_check.specs.declared.event.Ending.TheVariants.{Kept}
 use Rattle.cert_check.specs.declared.flight.Flight.{Flight}
 use Rattle.cert_check.specs.Machine.{MayKeep, kept}
 use Rattle.store_core.specs.Cores.{PlainCore}
+use Rattle.store_core.specs.Seen.{BeganLast}
 use Rattle.store_core.specs.Steps.{Keeps}
+use Rattle.store_core.proofs.SeenLemmas.{ends_with_more}
 use Rattle.store_core.proofs.TurnLemmas.{TookTurn, took}
 use Rattle.store_core.proofs.machine.Core.keep.Goals as goal
 
@@ -41,6 +44,24 @@ took_here c =
     (ap (λ (es : List Entry). record { entries = es; flights = c.end_flight.new.flights.items }) entries
     ∙ ap (λ (fs : List Flight). record { entries = joined c.self.inside.version ++ c.args.entry ∷ []; flights = fs })
     c.end_flight.ensures.flights) events
+
+pub add_seen-requires-clause-more : goal.add_seen-requires-clause-more
+add_seen-requires-clause-more c =
+    let core : PlainCore = record {
+      opening = joined c.self.inside.opening;
+      state = record { entries = joined c.self.inside.version; flights = c.self.inside.flights.items };
+      events = c.self.inside.events.items;
+    } in
+    let seen : ℕ = c.seen_by-seen.result in
+    let may : MayKeep core.state c.args.seat (length (joined c.self.inside.version)) c.args.entry =
+    subst (λ (x : PlainCore). MayKeep x.state c.args.seat (length x.state.entries) c.args.entry) (sym c.self.view_is)
+    c.requires in
+    let began : (seen ≡ 0) ⊎ BeganLast core.events c.args.seat seen =
+    subst (λ (es : List Event). (seen ≡ 0) ⊎ BeganLast es c.args.seat seen) c.deref.ensures.value
+    c.seen_by-seen.ensures in
+    subst (λ (ls : List (List Entry)). DecidesMore (take seen (joined ls)) c.args.entry) (sym c.get.ensures)
+    (ends_with_more c.flights_begin_rightly.ensures core c.args.seat (length (joined c.self.inside.version)) seen
+    c.args.entry c.self.invariant.0 began may)
 
 pub invariant_of-self : goal.invariant_of-self
 invariant_of-self c = ((took_here c).is_core, c.end_flight.ensures.room)

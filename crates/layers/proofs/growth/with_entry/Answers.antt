@@ -1,6 +1,6 @@
 use Rattle.std.proofs.Common.{arith}
 use Rattle.layers.proofs.JoinLemmas.{rest_short}
-use Rattle.layers.proofs.version.with_entry.Goals as goal
+use Rattle.layers.proofs.growth.with_entry.Goals as goal
 
 pub joined_with-requires : goal.joined_with-requires
 joined_with-requires c =

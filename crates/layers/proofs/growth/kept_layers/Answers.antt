@@ -1,6 +1,6 @@
 use Rattle.std.proofs.Common.{arith, length, refl}
 use Rattle.layers.proofs.JoinLemmas.{rest_short}
-use Rattle.layers.proofs.version.kept_layers.Goals as goal
+use Rattle.layers.proofs.growth.kept_layers.Goals as goal
 
 pub overflow_mul-behind : goal.overflow_mul-behind
 overflow_mul-behind c =

@@ -1,6 +1,6 @@
 use Rattle.std.proofs.Common.{◌∙◌}
 use Rattle.layers.proofs.JoinLemmas.{joined_read}
-use Rattle.layers.proofs.version.entries_of.Goals as goal
+use Rattle.layers.proofs.growth.entries_of.Goals as goal
 
 pub loop-layer-preserved : goal.loop-layer-preserved
 loop-layer-preserved c =
