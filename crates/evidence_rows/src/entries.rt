@@ -1,12 +1,11 @@
 //! Entries that are made and refused, and which keys they decide.
 ghost use Rattle.std.specs.Prelude.{◌≡◌, ◌<◌};
 
-use crate::fixtures::{key_of, on_atom};
+use crate::fixtures::{entry_of, key_of, on_atom, sat_entry};
 use atom_implies::Steps;
-use cert_check::{Entry, NotUnsat, Refused, check_sat, check_unsat, decides};
-use lin_model::{Key, Point};
+use cert_check::{Entry, NotUnsat, Refused, check_unsat, decides};
 use refutation::{Node, Tree};
-use std::alloc::Global;
+use std::alloc::{AllocError, Global};
 use std::marker::Brand;
 use std::process::Abort;
 use std::sync::ledger::{Blank, Ledger};
@@ -14,16 +13,7 @@ use std::test::Fail;
 
 /// The entry of `v0 <= 3` and `v0 >= 3` with this value, or why it is refused.
 fn at_value(alloc: Global, value: i64) -> Result<Result<Entry, Refused>, Fail> {
-    let key = key_of(alloc, "v0 <= 3;v0 >= 3")?;
-    let mut values = Vec::new(alloc);
-    values.push(value)?;
-    let Ok(point) = Point::of(values) else {
-        return Err(Fail::from("a point"));
-    };
-    if point.values().len() != usize::from(key.width()) {
-        return Err(Fail::from("a value for each variable"));
-    }
-    Ok(check_sat(key, point).map_err(|(refused, _, _)| refused))
+    sat_entry(alloc, "v0 <= 3;v0 >= 3", value)
 }
 
 #[test]
@@ -36,12 +26,19 @@ fn a_point_that_fails_is_refused_by_its_first_atom(rt: HostRuntime) -> Result<()
 
 /// The entry of `v0 - v1 <= -1` and `v0 - v1 >= 1` with these nodes and the two atoms as terms, or why it is refused.
 fn crossed(alloc: Global, nodes: &[Node]) -> Result<Result<Entry, NotUnsat>, Fail> {
+    let tree = tree_of(alloc, nodes)?;
     let key = key_of(alloc, "v0 - v1 <= -1;v0 - v1 >= 1")?;
-    let mut terms = Vec::new(alloc);
-    terms.push(on_atom(0, 1))?;
-    terms.push(on_atom(1, 1))?;
-    let tree = Tree::new(nodes.to_vec(alloc)?, terms);
-    Ok(check_unsat(alloc, key, tree).map_err(|(refused, _, _)| refused))
+    match check_unsat(alloc, key, tree) {
+        Ok(entry) => Ok(Ok(entry)),
+        Err((refused, _, _)) => Ok(Err(refused)),
+    }
+}
+
+/// The tree of these nodes, with the first two atoms as terms.
+fn tree_of(alloc: Global, nodes: &[Node]) -> Result<Tree, AllocError> {
+    let nodes = nodes.to_vec(alloc)?;
+    let terms = [on_atom(0, 1), on_atom(1, 1)];
+    Ok(Tree::new(nodes, terms.to_vec(alloc)?))
 }
 
 #[test]
@@ -89,38 +86,45 @@ fn try_deciding<L: Ledger>(rt: &(impl Abort + AllocGlobal), blank: Blank) -> Res
 
 /// `v0 <= 3` implies `v0 <= 100` and not `v0 <= 2`, and `v0 >= 3` implies `v0 >= 2`.
 fn try_sat<L: Ledger>(rt: &(impl Abort + AllocGlobal), steps: &mut Steps<L>) -> Result<(), Fail> {
-    let entry = entry_of(at_value(rt.alloc(), 3)?.ok())?;
-    let wide = key_of(rt.alloc(), "v0 <= 100;v0 >= 2")?;
-    expect(rt, &entry, wide, true, steps);
-    let narrow = key_of(rt.alloc(), "v0 <= 2;v0 >= 1")?;
-    expect(rt, &entry, narrow, false, steps);
-    Ok(())
+    let entry = entry_of(at_value(rt.alloc(), 3)?)?;
+    expect_first(rt, &entry, "v0 <= 100;v0 >= 2", "v0 <= 2;v0 >= 1", steps)
 }
 
 /// The core is decided by tighter atoms, whatever stands beside them, and not by one of them alone.
 fn try_core<L: Ledger>(rt: &(impl Abort + AllocGlobal), steps: &mut Steps<L>) -> Result<(), Fail> {
-    let core = entry_of(crossed(rt.alloc(), &[Node::Combo { count: 2 }])?.ok())?;
-    let beside = key_of(rt.alloc(), "v0 - v1 <= -7;v0 - v1 >= 5;v0 + v1 <= 3")?;
-    expect(rt, &core, beside, true, steps);
-    let alone = key_of(rt.alloc(), "v0 - v1 <= -1")?;
-    expect(rt, &core, alone, false, steps);
-    Ok(())
+    let core = crossed_core(rt.alloc())?;
+    let beside = "v0 - v1 <= -7;v0 - v1 >= 5;v0 + v1 <= 3";
+    expect_first(rt, &core, beside, "v0 - v1 <= -1", steps)
 }
 
-fn entry_of(entry: Option<Entry>) -> Result<Entry, Fail> {
-    match entry {
-        Some(entry) => Ok(entry),
-        None => Err(Fail::from("an entry")),
+/// The core of the two atoms.
+fn crossed_core(alloc: Global) -> Result<Entry, Fail> {
+    match crossed(alloc, &[Node::Combo { count: 2 }])? {
+        Ok(entry) => Ok(entry),
+        Err(_) => Err(Fail::from("an entry")),
     }
 }
 
-/// Expects that the entry decides the key, or that it doesn't.
-fn expect<L: Ledger>(
+/// Expects that the entry decides the first of two keys, and not the second.
+fn expect_first<L: Ledger>(
     rt: &(impl Abort + AllocGlobal),
     entry: &Entry,
-    key: Key,
-    want: bool,
+    first: &str,
+    second: &str,
     steps: &mut Steps<L>,
-) {
-    assert_eq!(rt; decides(entry, &key, steps), want);
+) -> Result<(), Fail> {
+    assert!(rt; is_decided(rt.alloc(), entry, first, steps)?);
+    assert!(rt; !is_decided(rt.alloc(), entry, second, steps)?);
+    Ok(())
+}
+
+/// Whether the entry decides the key of these atoms.
+fn is_decided<L: Ledger>(
+    alloc: Global,
+    entry: &Entry,
+    text: &str,
+    steps: &mut Steps<L>,
+) -> Result<bool, Fail> {
+    let key = key_of(alloc, text)?;
+    Ok(decides(entry, &key, steps))
 }

@@ -1,5 +1,6 @@
-//! Keys and the terms of leaves that the tests of evidence share.
-use lin_model::{Key, KeyAtom};
+//! Keys, entries and the terms of leaves that the tests of evidence share.
+use cert_check::{Entry, Refused, check_sat};
+use lin_model::{Key, KeyAtom, Point};
 use lin_text::read_atom;
 use refutation::{LeafTerm, On};
 use std::alloc::Global;
@@ -25,6 +26,35 @@ fn atom_of(alloc: Global, text: &str) -> Result<KeyAtom, Fail> {
     match read_atom(alloc, text.as_bytes()) {
         Ok(atom) => Ok(atom),
         Err(_) => Err(Fail::from("no canonical atom")),
+    }
+}
+
+/// The point of this one value.
+fn point_of(alloc: Global, value: i64) -> Result<Point, Fail> {
+    match Point::of(Vec::from_slice(alloc, &[value])?) {
+        Ok(point) => Ok(point),
+        Err(_) => Err(Fail::from("no point")),
+    }
+}
+
+/// The entry of the key of these atoms with this value, or why it is refused.
+pub fn sat_entry(alloc: Global, text: &str, value: i64) -> Result<Result<Entry, Refused>, Fail> {
+    let point = point_of(alloc, value)?;
+    let key = key_of(alloc, text)?;
+    if point.values().len() != usize::from(key.width()) {
+        return Err(Fail::from("a value for each variable"));
+    }
+    match check_sat(key, point) {
+        Ok(entry) => Ok(Ok(entry)),
+        Err((refused, _, _)) => Ok(Err(refused)),
+    }
+}
+
+/// The entry, where none was refused.
+pub fn entry_of(made: Result<Entry, Refused>) -> Result<Entry, Fail> {
+    match made {
+        Ok(entry) => Ok(entry),
+        Err(_) => Err(Fail::from("an entry")),
     }
 }
 

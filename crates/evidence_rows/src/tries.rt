@@ -4,6 +4,7 @@ ghost use Rattle.std.specs.Prelude.{◌≡◌, ◌+◌, ◌<◌, ◌≤◌};
 use crate::fixtures::key_of;
 use atom_implies::Steps;
 use lin_model::Key;
+use outside::NoMemory;
 use sat_trie::SatTrie;
 use std::alloc::Global;
 use std::marker::Brand;
@@ -14,19 +15,29 @@ use unsat_trie::UnsatTrie;
 
 /// `v0 <= 3` and `v0 >= 3` under 0, `v0 <= 3` and `v0 >= 2` under 1: three nodes.
 fn satisfied(alloc: Global) -> Result<SatTrie, Fail> {
-    let mut trie = SatTrie::new(alloc);
     let equal = key_of(alloc, "v0 <= 3;v0 >= 3")?;
-    trie.insert(&equal, 0)?;
     let wider = key_of(alloc, "v0 <= 3;v0 >= 2")?;
-    trie.insert(&wider, 1)?;
+    Ok(sat_trie_of(alloc, &equal, &wider)?)
+}
+
+/// The trie of two keys under 0 and 1.
+fn sat_trie_of(alloc: Global, first: &Key, second: &Key) -> Result<SatTrie, NoMemory> {
+    let mut trie = SatTrie::new(alloc);
+    trie.insert(first, 0)?;
+    trie.insert(second, 1)?;
     Ok(trie)
 }
 
 /// `v0 - v1 <= -1` and `v0 - v1 >= 1` under 0: two nodes.
 fn refuted(alloc: Global) -> Result<UnsatTrie, Fail> {
-    let mut trie = UnsatTrie::new(alloc);
     let crossed = key_of(alloc, "v0 - v1 <= -1;v0 - v1 >= 1")?;
-    trie.insert(&crossed, 0)?;
+    Ok(unsat_trie_of(alloc, &crossed)?)
+}
+
+/// The trie of this key under 0.
+fn unsat_trie_of(alloc: Global, key: &Key) -> Result<UnsatTrie, NoMemory> {
+    let mut trie = UnsatTrie::new(alloc);
+    trie.insert(key, 0)?;
     Ok(trie)
 }
 
@@ -77,10 +88,20 @@ fn try_satisfied<L: Ledger>(rt: &(impl Abort + AllocGlobal), blank: Blank) -> Re
 {
     let mut steps: Steps<L> = Steps::new(blank);
     let trie = satisfied(rt.alloc())?;
-    let wide = key_of(rt.alloc(), "v0 <= 5;v0 >= 2")?;
-    assert_eq!(rt; first_of_three(&trie, &wide, &mut steps)?, Some(0));
-    let narrow = key_of(rt.alloc(), "v0 <= 2")?;
-    assert_eq!(rt; first_of_three(&trie, &narrow, &mut steps)?, None);
+    expect_satisfied(rt, &trie, "v0 <= 5;v0 >= 2", Some(0), &mut steps)?;
+    expect_satisfied(rt, &trie, "v0 <= 2", None, &mut steps)
+}
+
+/// Expects that this is the first that the trie of three nodes finds for the key of these atoms.
+fn expect_satisfied<L: Ledger>(
+    rt: &(impl Abort + AllocGlobal),
+    trie: &SatTrie,
+    text: &str,
+    want: Option<u32>,
+    steps: &mut Steps<L>,
+) -> Result<(), Fail> {
+    let key = key_of(rt.alloc(), text)?;
+    assert_eq!(rt; first_of_three(trie, &key, steps)?, want, "{text}");
     Ok(())
 }
 
@@ -92,9 +113,20 @@ fn try_refuted<L: Ledger>(rt: &(impl Abort + AllocGlobal), blank: Blank) -> Resu
 {
     let mut steps: Steps<L> = Steps::new(blank);
     let trie = refuted(rt.alloc())?;
-    let beside = key_of(rt.alloc(), "v0 - v1 <= -7;v0 - v1 >= 5;v0 + v1 <= 3")?;
-    assert_eq!(rt; first_of_two(&trie, &beside, &mut steps)?, Some(0));
-    let alone = key_of(rt.alloc(), "v0 - v1 <= -1")?;
-    assert_eq!(rt; first_of_two(&trie, &alone, &mut steps)?, None);
+    let beside = "v0 - v1 <= -7;v0 - v1 >= 5;v0 + v1 <= 3";
+    expect_refuted(rt, &trie, beside, Some(0), &mut steps)?;
+    expect_refuted(rt, &trie, "v0 - v1 <= -1", None, &mut steps)
+}
+
+/// Expects that this is the first that the trie of two nodes finds for the key of these atoms.
+fn expect_refuted<L: Ledger>(
+    rt: &(impl Abort + AllocGlobal),
+    trie: &UnsatTrie,
+    text: &str,
+    want: Option<u32>,
+    steps: &mut Steps<L>,
+) -> Result<(), Fail> {
+    let key = key_of(rt.alloc(), text)?;
+    assert_eq!(rt; first_of_two(trie, &key, steps)?, want, "{text}");
     Ok(())
 }

@@ -1,11 +1,10 @@
 //! Frozen lists of entries that grow one by one.
 ghost use Rattle.std.specs.Prelude.{◌≡◌, ◌<◌};
 
-use crate::fixtures::key_of;
+use crate::fixtures::{entry_of, key_of, sat_entry};
 use atom_implies::Steps;
-use cert_check::{Entry, Shared, check_sat};
+use cert_check::{Entry, Shared};
 use layers::Version;
-use lin_model::Point;
 use std::alloc::Global;
 use std::marker::Brand;
 use std::process::Abort;
@@ -15,19 +14,8 @@ use std::test::Fail;
 /// The entry of `v0 <= value` and `v0 >= value`.
 fn entry(alloc: Global, value: i64) -> Result<Shared<Entry>, Fail> {
     let text = format!(in alloc; "v0 <= {value};v0 >= {value}")?;
-    let key = key_of(alloc, text.as_str())?;
-    let mut values = Vec::new(alloc);
-    values.push(value)?;
-    let Ok(point) = Point::of(values) else {
-        return Err(Fail::from("a point"));
-    };
-    if point.values().len() != usize::from(key.width()) {
-        return Err(Fail::from("a value for each variable"));
-    }
-    match check_sat(key, point) {
-        Ok(entry) => Ok(Shared::new(alloc, entry)?),
-        Err(_) => Err(Fail::from("an entry")),
-    }
+    let entry = entry_of(sat_entry(alloc, text.as_str(), value)?)?;
+    Ok(Shared::new(alloc, entry)?)
 }
 
 /// The version to which entries with the values 0 to 5 were added.
@@ -61,12 +49,35 @@ fn try_first<L: Ledger>(
     requires some { 0 < blank.parts }
 {
     let mut steps: Steps<L> = Steps::new(blank);
+    expect_first(rt, version, "v0 <= 9;v0 >= 3", Some(3), &mut steps)?;
+    expect_first_from(rt, version, 4, Some(4), &mut steps)?;
+    expect_first_from(rt, version, 6, None, &mut steps)?;
+    expect_first(rt, version, "v0 <= 9;v0 >= 7", None, &mut steps)
+}
+
+/// Expects that this entry is the first that decides the key of these atoms.
+fn expect_first<L: Ledger>(
+    rt: &(impl Abort + AllocGlobal),
+    version: &Version,
+    text: &str,
+    want: Option<u32>,
+    steps: &mut Steps<L>,
+) -> Result<(), Fail> {
+    let key = key_of(rt.alloc(), text)?;
+    assert_eq!(rt; version.first(&key, steps), want, "{text}");
+    Ok(())
+}
+
+/// Expects that this entry is the first from a place on that decides `v0 <= 9` and `v0 >= 3`.
+fn expect_first_from<L: Ledger>(
+    rt: &(impl Abort + AllocGlobal),
+    version: &Version,
+    from: u32,
+    want: Option<u32>,
+    steps: &mut Steps<L>,
+) -> Result<(), Fail> {
     let key = key_of(rt.alloc(), "v0 <= 9;v0 >= 3")?;
-    assert_eq!(rt; version.first(&key, &mut steps), Some(3));
-    assert_eq!(rt; version.first_from(4, &key, &mut steps), Some(4));
-    assert_eq!(rt; version.first_from(6, &key, &mut steps), None);
-    let none = key_of(rt.alloc(), "v0 <= 9;v0 >= 7")?;
-    assert_eq!(rt; version.first(&none, &mut steps), None);
+    assert_eq!(rt; version.first_from(from, &key, steps), want, "{from}");
     Ok(())
 }
 
