@@ -1,0 +1,13 @@
+mod SavingLemmas
+mod ContentLemmas
+mod FileLemmas
+mod WroteLemmas
+mod JournalLemmas
+mod AppendLemmas
+mod HeaderLemmas
+mod OpeningLemmas
+mod OpenedLemmas
+mod RunLemmas
+mod PlaceLemmas
+mod ReadingLemmas
+mod ScanLemmas

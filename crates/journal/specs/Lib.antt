@@ -1,0 +1,9 @@
+pub mod Files
+pub mod Recovery
+pub mod Opening
+pub mod Reading
+pub mod Saving
+pub mod Journals
+pub mod Puts
+pub mod Appends
+pub mod Laws
