@@ -1,19 +1,18 @@
 -- Runs of frames: what one front of a file says of another, where no two entries stand in front of the same bytes.
-use Rattle.std.proofs.Common.{◌≡◌, ◌⊎◌, inl, inr, ⊎_elim, ℕ, zero, suc, ◌+◌, ◌≤◌, List, [], ◌∷◌, ◌++◌, length, take, drop, refl, sym, ap, ◌∙◌, subst, arith}
+use Rattle.std.proofs.Common.{◌≡◌, ◌⊎◌, inl, inr, ⊎_elim, ℕ, ◌+◌, ◌≤◌, List, [], ◌∷◌, ◌++◌, length, take, drop, refl, sym, ap, ◌∙◌, subst, arith}
 use Rattle.std.proofs.Common.{append_assoc, append-nil, length-append, take-append-drop}
 use Rattle.std.proofs.lemmas.Bool.{cases_lt}
 use Rattle.std.proofs.lemmas.List.{append_cancel_left, take-take}
-use Rattle.std.proofs.lemmas.List.Elements.{All-nil, All-cons, All-head, All-tail}
+use Rattle.std.proofs.lemmas.List.Elements.{All-head, All-tail}
 use Rattle.std.specs.List.{All}
 use Rattle.cert_check.specs.declared.entry.Entry.{Entry}
-use Rattle.cert_check.specs.Decides.{HasEvidence, IsChecked}
 use Rattle.entry_codec.specs.Answers.{OneFrameStands}
-use Rattle.entry_codec.specs.Frames.{FitsFrame, IsFrame, frame_of}
+use Rattle.entry_codec.specs.Frames.{IsFrame, frame_of}
 use Rattle.journal.specs.declared.limits.TheConstants.{HEADER, MAX_FILE, MAX_ENTRIES}
 use Rattle.journal.specs.Files.{GoesOnWith, IsStorable, frames_of}
-use Rattle.journal.specs.Laws.{OneListIsRecovered, FrontsAreRecovered, JustTheseAreRecovered, KeptEntriesAreHeld, SomeListIsRecovered}
+use Rattle.journal.specs.Laws.{OneListIsRecovered, FrontsAreRecovered, JustTheseAreRecovered, KeptEntriesAreHeld}
 use Rattle.journal.specs.Recovery.{IsForeign, IsJournal, IsUnbegun, NoFrame, RecoversTo}
-use Rattle.journal.proofs.HeaderLemmas.{NoFrame-none, begun_journal, cases_header, cases_unbegun, recovers_unbegun, unbegun_only}
+use Rattle.journal.proofs.HeaderLemmas.{NoFrame-none, begun_journal, cases_header, unbegun_only}
 
 -- the frame of an entry that can be stored stands in front of whatever follows
 pub IsFrame-stored : (e : Entry) (rest : List ℕ) → IsStorable e → IsFrame (frame_of e ++ rest) e (length (frame_of e))
@@ -151,36 +150,3 @@ counted_begun file is =
     sym (take-append-drop (length HEADER) (take MAX_FILE file))
     ∙ ap (λ (l : List ℕ). l ++ drop (length HEADER) (take MAX_FILE file))
     (take-take (length HEADER) MAX_FILE file (omega arith) ∙ is)
-
-module _ (checked : (e : Entry) → FitsFrame e → HasEvidence e → IsChecked e) where
-  -- some run goes on as far as it can
-  some_run : (most : ℕ) (bytes : List ℕ) → ¬ ((entries : List Entry) (rest : List ℕ)
-      → bytes ≡ frames_of entries ++ rest → All IsStorable entries → length entries ≤ most
-      → (length entries ≡ most) ⊎ NoFrame rest → ⊥)
-  some_run zero bytes none = none [] bytes refl (All-nil IsStorable) (omega arith) (inl refl)
-  some_run (suc most) bytes none =
-      none [] bytes refl (All-nil IsStorable) (omega arith) (inr (λ e taken frame.
-      some_run most frame.begins.rest (λ entries rest same stored few longest.
-      none (e ∷ entries) rest
-      (frame.begins.spelled ∙ ap (λ (l : List ℕ). frame_of e ++ l) same ∙ sym (frames_split e entries rest))
-      (All-cons IsStorable e entries
-      (record { fits = frame.begins.fits; checked = checked e frame.begins.fits frame.evidence }) stored)
-      (omega (arith, few))
-      (⊎_elim (λ full. inl (omega (arith, full))) (λ end. inr end) longest))))
-
-  pub some_list : SomeListIsRecovered
-  some_list file own none = elim (cases_unbegun file) [
-    | inl fresh ↦ none [] (recovers_unbegun file fresh)
-    | inr begun ↦
-        let whole = counted_begun file (begun_front file own begun) in
-        some_run MAX_ENTRIES (drop (length HEADER) (take MAX_FILE file)) (λ entries rest same stored few longest.
-        none entries (
-          rest,
-          inr (record {
-            parts = record { spelled = whole ∙ ap (λ (l : List ℕ). HEADER ++ l) same };
-            each = stored;
-            few = few;
-            longest = longest;
-          }),
-        ))
-  ]

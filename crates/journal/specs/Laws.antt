@@ -7,7 +7,7 @@ use Rattle.entry_codec.specs.Frames.{frame_of}
 use Rattle.journal.specs.declared.limits.TheConstants.{MAX_ENTRIES}
 use Rattle.journal.specs.Files.{AreStorable, BeginsWith, HasJust, HasNoRoom}
 use Rattle.journal.specs.Journals.{AreInPlace, saved_in}
-use Rattle.journal.specs.Recovery.{HoldsAtLeast, IsForeign, KeepsEntries, RecoversTo}
+use Rattle.journal.specs.Recovery.{HoldsAtLeast, KeepsEntries, RecoversTo}
 
 -- a file recovers to one list of entries at most
 abbrev pub OneListIsRecovered : Type 0
@@ -28,10 +28,6 @@ JustTheseAreRecovered = (file : List ℕ) (entries : List Entry) → AreStorable
 abbrev pub KeptEntriesAreHeld : Type 0
 KeptEntriesAreHeld = (file image : List ℕ) (entries : List Entry) → RecoversTo file entries → KeepsEntries file image
     → HoldsAtLeast image entries
-
--- each file that isn't foreign recovers to some list
-abbrev pub SomeListIsRecovered : Type 0
-SomeListIsRecovered = (file : List ℕ) → ¬ IsForeign file → ¬ ((entries : List Entry) → ¬ RecoversTo file entries)
 
 -- where a file begins with the list that these writes left, the frame of each entry that was saved stands at its place
 abbrev pub FramesStand : Type 0
