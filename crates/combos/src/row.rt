@@ -90,14 +90,13 @@ impl Row {
         Some(())
     }
 
-    /// The sum of the constant and of each coefficient times the value of its column. A value is a side of a variable, of
-    /// 34 bits, so the sum doesn't wrap.
+    /// The sum of the constant and of each coefficient times the value of its column.
     pub fn value(&self, columns: &[Column; MAX_COLUMNS], used: usize) -> Option<i64> {
         let mut sum = i128::from(self.constant);
         for column in 0..used.min(MAX_COLUMNS) {
             let coef = self.coefs[column];
             if coef != 0 {
-                sum = sum.wrapping_add(product(coef, columns[column].value));
+                sum = sum.checked_add(product(coef, columns[column].value))?;
             }
         }
         i64::try_from(sum).ok()

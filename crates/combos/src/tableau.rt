@@ -121,7 +121,7 @@ impl Tableau {
         comparison: Comparison<'_>,
         row: &mut Row,
     ) -> Option<Failing> {
-        let above = self.above(comparison);
+        let above = self.above(comparison)?;
         let fails = match comparison.op {
             Op::Le => above > 0,
             Op::Ge => above < 0,
@@ -183,14 +183,13 @@ impl Tableau {
         None
     }
 
-    /// How far a comparison's form is above its constant, times the denominator. Coefficients have 40 bits and constants
-    /// 50, so the sum doesn't wrap.
-    fn above(&self, comparison: Comparison<'_>) -> i128 {
-        let mut sum = product(self.denominator, comparison.constant).wrapping_neg();
+    /// How far a comparison's form is above its constant, times the denominator.
+    fn above(&self, comparison: Comparison<'_>) -> Option<i128> {
+        let mut sum = product(self.denominator, comparison.constant).checked_neg()?;
         for term in comparison.form.terms() {
-            sum = sum.wrapping_add(product(term.coef, self.value(term.var)));
+            sum = sum.checked_add(product(term.coef, self.value(term.var)))?;
         }
-        sum
+        Some(sum)
     }
 
     /// Writes the row of a comparison's form less its constant.

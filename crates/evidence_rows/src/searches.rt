@@ -1,50 +1,112 @@
-//! Worked searches, by hand.
+//! Calls on searches and their parts: `leaf`, `cut`, `step`, `solve`, `count`.
 ghost use Rattle.std.specs.Prelude.{◌≤◌, IfOk};
 ghost use Rattle.refutation.specs.Boxed.{IsBoxed};
 
-use crate::fixtures::{key_of, on_atom, on_side};
+use crate::reading::{budget_of, halves, key_of, place_of, variable_of};
+use crate::writing::{Spelled, push_terms, tree_text};
 use box_solver::{Found, TighterSide, TreeRegion, cut, is_boxed, solve, step};
 use combos::find_combo;
 use lin_model::Key;
-use refutation::{Bounds, LeafTerm, Node, refutes};
-use std::alloc::Global;
-use std::process::Abort;
-use std::test::Fail;
+use refutation::{Bounds, Leaf, LeafTerm};
+use row_table::RowFault;
+use std::alloc::{AllocError, Global};
 
 /// The key of these atoms, which hold each variable from both sides.
-fn boxed(alloc: Global, text: &str) -> Result<Key, Fail>
+pub fn boxed(alloc: Global, text: &str) -> Result<Key, RowFault>
     ensures { IfOk result (λ key. IsBoxed key) }
 {
     let key = key_of(alloc, text)?;
     if is_boxed(&key) {
         Ok(key)
     } else {
-        Err(Fail::from("not boxed"))
+        Err(RowFault::NoCall)
     }
 }
 
-/// Two that shut each other out, over the widest bounds.
-const APART: &str = "v0 <= 2147483647;v0 >= -2147483648;v0 - v1 <= -1;v0 - v1 >= 1;\
-v1 <= 2147483647;v1 >= -2147483648";
+/// Of `KEY`: the leaf that is found to close the box of the key's bounds, or `open`.
+pub fn found_leaf(alloc: Global, argument: &str) -> Result<String, RowFault> {
+    let key = key_of(alloc, argument)?;
+    match find_combo(&key, &Bounds::of(&key), &[]) {
+        Some(leaf) => Ok(leaf_text(alloc, &leaf)?),
+        None => Ok(String::from_str(alloc, "open")?),
+    }
+}
 
-/// `v0` is below `v1`, over 0 to 1.
-const BELOW: &str = "v0 <= 1;v0 >= 0;v0 - v1 <= -1;v1 <= 1;v1 >= 0";
+fn leaf_text(alloc: Global, leaf: &Leaf) -> Result<String, AllocError> {
+    match leaf {
+        Leaf::Combo(terms) => combination_text(alloc, terms.as_slice()),
+        Leaf::Fixed(atom) => format!(in alloc; "fixed {atom}"),
+        Leaf::Empty => String::from_str(alloc, "empty"),
+    }
+}
 
-/// `v0` and `v1` are to be equal, and not equal.
-const EQUAL_APART: &str =
-    "v0 <= 2147483647;v0 >= -2147483648;v0 - v1 <= 0;v0 - v1 >= 0;v0 - v1 != 0;\
-v1 <= 2147483647;v1 >= -2147483648";
+fn combination_text(alloc: Global, terms: &[LeafTerm]) -> Result<String, AllocError> {
+    let count = terms.len();
+    let mut text = format!(in alloc; "sum {count} |")?;
+    push_terms(alloc, &mut text, terms)?;
+    Ok(text)
+}
 
-/// `v0 < v1`, `v1 < v2` and `v2 < v0`.
-const CHAIN: &str = "v0 <= 2147483647;v0 >= -2147483648;v0 - v1 <= -1;v0 - v2 >= 1;\
-v1 <= 2147483647;v1 >= -2147483648;v1 - v2 <= -1;v2 <= 2147483647;v2 >= -2147483648";
+/// Of `ATOM VARIABLE | KEY`: the side of the variable that the key's atom of this number gives within the key's bounds.
+pub fn cut_side(alloc: Global, argument: &str) -> Result<String, RowFault> {
+    let (names, key) = halves(argument);
+    let (atom, var) = names.split_once(' ').ok_or(RowFault::NoCall)?;
+    let key = key_of(alloc, key)?;
+    let atom = key
+        .atoms()
+        .get(usize::from(place_of(atom)?))
+        .ok_or(RowFault::NoCall)?;
+    let side = cut(&Bounds::of(&key), atom, variable_of(var)?);
+    Ok(side_text(alloc, side)?)
+}
 
-/// `v0` would have to be even and odd.
-const EVEN_AND_ODD: &str = "v0 <= 2147483647;v0 >= -2147483648;v0 - 2*v1 = 0;v0 - 2*v2 = 1;\
-v1 <= 2147483647;v1 >= -2147483648;v2 <= 2147483647;v2 >= -2147483648";
+fn side_text(alloc: Global, side: Option<TighterSide>) -> Result<String, AllocError> {
+    match side {
+        Some(TighterSide { value, upper: true }) => format!(in alloc; "at most {value}"),
+        Some(
+            TighterSide {
+                value,
+                upper: false,
+            },
+        ) => format!(in alloc; "at least {value}"),
+        None => String::from_str(alloc, "none"),
+    }
+}
+
+/// Of `KEY`: the node that splits the box of the key's bounds, `corner` where its lowest corner satisfies the key, or
+/// `closed` where a leaf is found for it.
+pub fn next_step(alloc: Global, argument: &str) -> Result<String, RowFault> {
+    let key = boxed(alloc, argument)?;
+    let bounds = Bounds::of(&key);
+    if find_combo(&key, &bounds, &[]).is_some() {
+        return Ok(String::from_str(alloc, "closed")?);
+    }
+    match step(&key, &bounds, &[]) {
+        Some(node) => Ok(format!(in alloc; "{}", Spelled(node))?),
+        None => Ok(String::from_str(alloc, "corner")?),
+    }
+}
+
+/// Of `BUDGET | KEY`: how the search ends, and its tree.
+pub fn searched(alloc: Global, argument: &str) -> Result<String, RowFault> {
+    let (budget, key) = halves(argument);
+    let (found, region) = search(alloc, key, budget_of(budget)?)?;
+    let ended = ended_text(alloc, &found)?;
+    let tree = tree_text(alloc, region.nodes(), region.terms())?;
+    Ok(format!(in alloc; "{ended}: {tree}")?)
+}
+
+/// Of `BUDGET | KEY`: how the search ends, and how many nodes its tree has.
+pub fn counted(alloc: Global, argument: &str) -> Result<String, RowFault> {
+    let (budget, key) = halves(argument);
+    let (found, region) = search(alloc, key, budget_of(budget)?)?;
+    let ended = ended_text(alloc, &found)?;
+    let count = region.nodes().len();
+    Ok(format!(in alloc; "{ended}: {count} nodes")?)
+}
 
 /// Searches the key of these atoms within the budget: how it ends, and the region with its tree.
-fn searched(alloc: Global, text: &str, budget: u32) -> Result<(Found, TreeRegion), Fail>
+fn search(alloc: Global, text: &str, budget: u32) -> Result<(Found, TreeRegion), RowFault>
     requires some { 1 ≤ budget }
     requires few { budget ≤ 100000 }
 {
@@ -54,176 +116,19 @@ fn searched(alloc: Global, text: &str, budget: u32) -> Result<(Found, TreeRegion
     Ok((found, region))
 }
 
-/// How a search ended.
-fn ended(found: &Found) -> &'static str {
+/// How a search ended, with the values of a model.
+fn ended_text(alloc: Global, found: &Found) -> Result<String, AllocError> {
     match found {
-        Found::Model(_) => "model",
-        Found::Refuted => "refuted",
-        Found::Spent => "spent",
+        Found::Model(point) => model_text(alloc, point.as_slice()),
+        Found::Refuted => String::from_str(alloc, "refuted"),
+        Found::Spent => String::from_str(alloc, "spent"),
     }
 }
 
-/// Expects that the search ends like this, with a tree of these nodes and terms.
-fn expect_search(
-    rt: &(impl Abort + AllocGlobal),
-    text: &str,
-    budget: u32,
-    want: &str,
-    nodes: &[Node],
-    terms: &[LeafTerm],
-) -> Result<(), Fail>
-    requires some { 1 ≤ budget }
-    requires few { budget ≤ 100000 }
-{
-    let (found, region) = searched(rt.alloc(), text, budget)?;
-    assert_eq!(rt; ended(&found), want);
-    assert!(rt; region.nodes() == nodes);
-    assert!(rt; region.terms() == terms);
-    Ok(())
-}
-
-/// Expects that a search of one split ends with a tree of these nodes that refutes the key.
-fn expect_refuted(rt: &(impl Abort + AllocGlobal), text: &str, nodes: &[Node]) -> Result<(), Fail> {
-    let key = boxed(rt.alloc(), text)?;
-    let (found, region) = searched(rt.alloc(), text, 1)?;
-    assert_eq!(rt; ended(&found), "refuted");
-    assert!(rt; region.nodes() == nodes);
-    assert_eq!(rt;
-        refutes(rt.alloc(), &key, region.nodes(), region.terms()),
-        Ok(())
-    );
-    Ok(())
-}
-
-#[test]
-fn the_sum_of_two_closes_wide_bounds(rt: HostRuntime) -> Result<(), Fail> {
-    let nodes = [Node::Combo { count: 2 }];
-    let terms = [on_atom(2, 1), on_atom(3, 1)];
-    expect_search(&rt, APART, 1, "refuted", &nodes, &terms)?;
-    expect_refuted(&rt, APART, &nodes)
-}
-
-/// `v0 <= v1`, `v0 >= v1` and `v0 != v1`: one split by the last, and the sum of two on each side.
-#[test]
-fn a_split_by_an_atom_leaves_two_sums(rt: HostRuntime) -> Result<(), Fail> {
-    let nodes = [
-        Node::NeSplit { atom: 4 },
-        Node::Combo { count: 2 },
-        Node::Combo { count: 2 },
-    ];
-    let terms = [on_atom(3, 1), on_side(0, 1), on_atom(2, 1), on_side(0, 1)];
-    expect_search(&rt, EQUAL_APART, 1, "refuted", &nodes, &terms)
-}
-
-/// `v0 < v1`, `v1 < v2` and `v2 < v0`: no two close the box, the three together do.
-#[test]
-fn a_chain_is_closed_by_elimination(rt: HostRuntime) -> Result<(), Fail> {
-    expect_refuted(&rt, CHAIN, &[Node::Combo { count: 3 }])
-}
-
-/// The atom raises the lower side of `v1` to 1, and the corner of what is left is a model.
-#[test]
-fn the_first_corner_that_satisfies_the_key_is_the_model(rt: HostRuntime) -> Result<(), Fail> {
-    let nodes = [Node::Split { var: 1, cut: 0 }, Node::Combo { count: 1 }];
-    expect_search(&rt, BELOW, 4, "model", &nodes, &[on_atom(2, 1)])?;
-    expect_model(&rt, BELOW, 4, &[0, 1])
-}
-
-fn expect_model(
-    rt: &(impl Abort + AllocGlobal),
-    text: &str,
-    budget: u32,
-    want: &[i64],
-) -> Result<(), Fail>
-    requires some { 1 ≤ budget }
-    requires few { budget ≤ 100000 }
-{
-    let (found, _region) = searched(rt.alloc(), text, budget)?;
-    match &found {
-        Found::Model(point) => assert!(rt; point.as_slice() == want),
-        _ => return Err(Fail::from("no model")),
+fn model_text(alloc: Global, values: &[i64]) -> Result<String, AllocError> {
+    let mut text = String::from_str(alloc, "model")?;
+    for value in values {
+        text.push_str(&format!(in alloc; " {value}")?)?;
     }
-    Ok(())
-}
-
-#[test]
-fn a_region_is_cut_back_behind_a_search(rt: HostRuntime) -> Result<(), Fail> {
-    let key = boxed(rt.alloc(), BELOW)?;
-    let mut region = TreeRegion::reserve(rt.alloc(), 4)?;
-    let mark = region.mark();
-    let found = solve(&key, 4, &mut region);
-    assert!(rt; matches!(&found, Found::Model(_)));
-    assert_eq!(rt; region.nodes().len(), 2);
-    region.release(mark);
-    assert!(rt; region.nodes().is_empty());
-    Ok(())
-}
-
-/// The bounds stay at a split by `v0 != 0`, so that the corner fails the same atom again, and no budget is left.
-#[test]
-fn one_split_leaves_a_box_open(rt: HostRuntime) -> Result<(), Fail> {
-    let nodes = [
-        Node::NeSplit { atom: 2 },
-        Node::Combo { count: 1 },
-        Node::Left,
-    ];
-    let text = "v0 <= 9;v0 >= 0;v0 != 0";
-    expect_search(&rt, text, 1, "spent", &nodes, &[on_side(0, 1)])
-}
-
-/// `v0` would have to be even and odd, which no sum of comparisons tells: the bounds close in by one step at a time.
-#[test]
-fn a_large_budget_is_spent(rt: HostRuntime) -> Result<(), Fail> {
-    let (found, region) = searched(rt.alloc(), EVEN_AND_ODD, 100_000)?;
-    assert_eq!(rt; ended(&found), "spent");
-    assert_eq!(rt; region.nodes().len(), 200_001);
-    Ok(())
-}
-
-/// Twice as many nodes as splits and one more, eight terms for each leaf that they may leave, and the splits.
-#[test]
-fn a_region_has_the_room_that_was_reserved(rt: HostRuntime) -> Result<(), Fail> {
-    let mut region = TreeRegion::reserve(rt.alloc(), 1)?;
-    assert_eq!(rt; spare_room(&region), (3, 16, 1));
-    assert!(rt; region.pop_trail().is_none());
-    region.push_node(Node::Empty);
-    region.push_node(Node::Left);
-    let mark = region.mark();
-    region.push_node(Node::Empty);
-    region.release(mark);
-    assert!(rt; region.nodes() == [Node::Empty, Node::Left].as_slice());
-    assert_eq!(rt; region.spare_nodes(), 1);
-    Ok(())
-}
-
-/// How many nodes, terms and items of the trail may still be pushed.
-fn spare_room(region: &TreeRegion) -> (u32, u32, u32) {
-    (
-        region.spare_nodes(),
-        region.spare_terms(),
-        region.spare_trail(),
-    )
-}
-
-/// The parts of the search by themselves, on the box of `v0 - v1 <= -1` over 0 to 1.
-#[test]
-fn an_open_box_is_split_by_its_cut(rt: HostRuntime) -> Result<(), Fail> {
-    let key = boxed(rt.alloc(), BELOW)?;
-    let bounds = Bounds::of(&key);
-    if find_combo(&key, &bounds, &[]).is_some() {
-        return Err(Fail::from("closed"));
-    }
-    let Some(difference) = key.atoms().get(2) else {
-        return Err(Fail::from("no third atom"));
-    };
-    let raised = TighterSide {
-        value: 1,
-        upper: false,
-    };
-    assert_eq!(rt; cut(&bounds, difference, 1), Some(raised));
-    assert_eq!(rt;
-        step(&key, &bounds, &[]),
-        Some(Node::Split { var: 1, cut: 0 })
-    );
-    Ok(())
+    Ok(text)
 }

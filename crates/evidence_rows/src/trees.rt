@@ -1,125 +1,96 @@
-//! Worked trees and leaves, by hand.
-use crate::fixtures::{key_of, on_atom, on_side};
+//! Calls on leaves and trees: `refutes`, `closes`, `chosen`.
+use crate::reading::{SpelledTree, halves, key_of, node_of, place_of, terms_of, tree_of};
+use crate::writing::yes_or_no;
 use arrayvec::ArrayVec;
-use lin_model::Key;
-use outside::NoMemory;
 use refutation::{Bounds, Leaf, LeafTerm, Node, Side, TreeFault, closes, closes_chosen, refutes};
+use row_table::RowFault;
 use std::alloc::Global;
-use std::process::Abort;
-use std::test::Fail;
 
-/// Two that shut each other out.
-const CROSSED: &str = "v0 - v1 <= -1;v0 - v1 >= 1";
-
-/// A difference that is to be 0, and not 0.
-const PINNED: &str = "v0 - v1 <= 0;v0 - v1 >= 0;v0 - v1 != 0";
-
-#[test]
-fn two_terms_refute(rt: HostRuntime) -> Result<(), Fail> {
-    let key = key_of(rt.alloc(), CROSSED)?;
-    let combo = [Node::Combo { count: 2 }];
-    let both = [on_atom(0, 1), on_atom(1, 1)];
-    expect_tree(&rt, &key, &combo, &both, Ok(()));
-
-    let changed = [on_atom(0, 1), on_atom(1, 2)];
-    expect_tree(&rt, &key, &combo, &changed, Err(TreeFault::NodeFails(0)));
-    let left_over = [on_atom(0, 1), on_atom(1, 1), on_atom(1, 1)];
-    expect_tree(&rt, &key, &combo, &left_over, Err(TreeFault::TreeGoesOn));
-    expect_tree(&rt, &key, &[], &[], Err(TreeFault::TreeEnds));
-    let twice = [Node::Combo { count: 2 }, Node::Empty];
-    expect_tree(&rt, &key, &twice, &both, Err(TreeFault::TreeGoesOn));
-    Ok(())
+/// Of `KEY | NODES | TERMS`: `refuted`, or why not.
+pub fn refuted(alloc: Global, argument: &str) -> Result<String, RowFault> {
+    let (key, tree) = halves(argument);
+    let key = key_of(alloc, key)?;
+    let SpelledTree { nodes, terms } = tree_of(alloc, tree)?;
+    match refutes(alloc, &key, &nodes, &terms) {
+        Ok(()) => Ok(String::from_str(alloc, "refuted")?),
+        Err(TreeFault::NoMemory) => Err(RowFault::NoMemory),
+        Err(fault) => Ok(format!(in alloc; "{fault}")?),
+    }
 }
 
-#[test]
-fn a_split_by_an_atom_needs_its_sides(rt: HostRuntime) -> Result<(), Fail> {
-    let key = key_of(rt.alloc(), PINNED)?;
-    let nodes = [
-        Node::NeSplit { atom: 2 },
-        Node::Combo { count: 2 },
-        Node::Combo { count: 2 },
-    ];
-    let terms = [on_atom(1, 1), on_side(0, 1), on_atom(0, 1), on_side(0, 1)];
-    expect_tree(&rt, &key, &nodes, &terms, Ok(()));
-    let exchanged = [on_atom(0, 1), on_side(0, 1), on_atom(1, 1), on_side(0, 1)];
-    expect_tree(&rt, &key, &nodes, &exchanged, Err(TreeFault::NodeFails(1)));
-    Ok(())
+/// Of `KEY | SIDES | LEAF | TERMS`: whether the leaf closes the box of the key's bounds and these sides.
+pub fn closed(alloc: Global, argument: &str) -> Result<String, RowFault> {
+    let (key, rest) = halves(argument);
+    let (sides, leaf) = halves(rest);
+    let key = key_of(alloc, key)?;
+    let sides = sides_of(alloc, sides)?;
+    let leaf = leaf_of(alloc, leaf)?;
+    let is_closed = closes(&key, &Bounds::of(&key), &sides, &leaf);
+    Ok(yes_or_no(alloc, is_closed)?)
 }
 
-#[test]
-fn a_leaf_closes_by_a_side(rt: HostRuntime) -> Result<(), Fail> {
-    let alloc = rt.alloc();
-    let key = key_of(alloc, PINNED)?;
-    let bounds = Bounds::of(&key);
-    let sides = [Side {
-        atom: 2,
-        upper: true,
-    }];
-    let mut terms = ArrayVec::new();
-    terms.push(on_atom(0, 1));
-    terms.push(on_side(0, 1));
-    assert!(rt; closes(&key, &bounds, &sides, &Leaf::Combo(terms)));
-    assert!(rt; !closes(&key, &bounds, &sides, &Leaf::Empty));
-    assert!(rt; !closes(&key, &bounds, &sides, &Leaf::Fixed(0)));
-    Ok(())
+/// Sides with commas between them.
+fn sides_of(alloc: Global, text: &str) -> Result<Vec<Side>, RowFault> {
+    let mut sides = Vec::new(alloc);
+    for side in text.split(',') {
+        sides.push(side_of(side.trim())?)?;
+    }
+    Ok(sides)
 }
 
-#[test]
-fn chosen_atoms_bound_the_box(rt: HostRuntime) -> Result<(), Fail> {
-    let key = key_of(rt.alloc(), "v0 <= 3;v0 >= 4")?;
-    assert!(rt; is_empty(rt.alloc(), &key, &[true, true])?);
-    assert!(rt; !is_empty(rt.alloc(), &key, &[true, false])?);
-    assert!(rt; !is_empty(rt.alloc(), &key, &[false, true])?);
-    Ok(())
+/// The side of an atom, as `above 2` or `below 2`.
+fn side_of(text: &str) -> Result<Side, RowFault> {
+    let (name, atom) = text.split_once(' ').ok_or(RowFault::NoCall)?;
+    let atom = place_of(atom)?;
+    match name {
+        "above" => Ok(Side { atom, upper: true }),
+        "below" => Ok(Side { atom, upper: false }),
+        _ => Err(RowFault::NoCall),
+    }
 }
 
-/// Whether the box that the chosen atoms bound is empty.
-fn is_empty(alloc: Global, key: &Key, choice: &[bool]) -> Result<bool, Fail> {
+/// The leaf that a node and its terms spell.
+fn leaf_of(alloc: Global, text: &str) -> Result<Leaf, RowFault> {
+    let (node, terms) = halves(text);
+    match node_of(node)? {
+        Node::Combo { .. } => combination_of(&terms_of(alloc, terms)?),
+        Node::Fixed { atom } => Ok(Leaf::Fixed(atom)),
+        Node::Empty => Ok(Leaf::Empty),
+        _ => Err(RowFault::NoCall),
+    }
+}
+
+/// The combination of at most eight terms.
+fn combination_of(terms: &[LeafTerm]) -> Result<Leaf, RowFault> {
+    let mut leaf = ArrayVec::new();
+    for term in terms {
+        if leaf.is_full() {
+            return Err(RowFault::NoCall);
+        }
+        leaf.push(*term);
+    }
+    Ok(Leaf::Combo(leaf))
+}
+
+/// Of `CHOICE | KEY | NODES | TERMS`: whether the tree closes the box that the chosen atoms of the key bound. The choice
+/// has one letter for each atom, `y` where it is chosen.
+pub fn closed_by_chosen(alloc: Global, argument: &str) -> Result<String, RowFault> {
+    let (choice, rest) = halves(argument);
+    let (key, tree) = halves(rest);
+    let key = key_of(alloc, key)?;
+    let choice = choice_of(alloc, choice)?;
+    let SpelledTree { nodes, terms } = tree_of(alloc, tree)?;
     if choice.len() != key.atoms().len() {
-        return Err(Fail::from("not one flag for each atom"));
+        return Err(RowFault::NoCall);
     }
-    Ok(closes_chosen(alloc, key, choice, &[Node::Empty], &[])?)
+    let is_closed = closes_chosen(alloc, &key, &choice, &nodes, &terms)?;
+    Ok(yes_or_no(alloc, is_closed)?)
 }
 
-/// How often the tree of `a_tree_of_many_nodes_refutes` splits.
-const SPLITS: usize = 50_000;
-
-#[test]
-fn a_tree_of_many_nodes_refutes(rt: HostRuntime) -> Result<(), Fail> {
-    let key = key_of(rt.alloc(), CROSSED)?;
-    let mut nodes = Vec::new(rt.alloc());
-    let mut terms = Vec::new(rt.alloc());
-    for cut in 0..SPLITS {
-        nodes.push(Node::Split {
-            var: 0,
-            cut: cut as i64,
-        })?;
-        push_leaf(&mut nodes, &mut terms)?;
+fn choice_of(alloc: Global, text: &str) -> Result<Vec<bool>, RowFault> {
+    let mut choice = Vec::new(alloc);
+    for letter in text.bytes() {
+        choice.push(letter == b'y')?;
     }
-    expect_tree(&rt, &key, &nodes, &terms, Err(TreeFault::TreeEnds));
-    push_leaf(&mut nodes, &mut terms)?;
-    assert_eq!(rt; nodes.len(), 100_001);
-    expect_tree(&rt, &key, &nodes, &terms, Ok(()));
-    nodes[SPLITS] = Node::Empty;
-    let at = SPLITS as u64;
-    expect_tree(&rt, &key, &nodes, &terms, Err(TreeFault::NodeFails(at)));
-    Ok(())
-}
-
-/// Adds a leaf that closes any box by both atoms of `CROSSED`.
-fn push_leaf(nodes: &mut Vec<Node>, terms: &mut Vec<LeafTerm>) -> Result<(), NoMemory> {
-    nodes.push(Node::Combo { count: 2 })?;
-    terms.push(on_atom(0, 1))?;
-    terms.push(on_atom(1, 1))?;
-    Ok(())
-}
-
-fn expect_tree(
-    rt: &(impl Abort + AllocGlobal),
-    key: &Key,
-    nodes: &[Node],
-    terms: &[LeafTerm],
-    want: Result<(), TreeFault>,
-) {
-    assert_eq!(rt; refutes(rt.alloc(), key, nodes, terms), want);
+    Ok(choice)
 }

@@ -1,44 +1,162 @@
-//! Tries of satisfied keys and of cores, on keys whose answers were reckoned by hand.
-ghost use Rattle.std.specs.Prelude.{◌≡◌, ◌+◌, ◌<◌, ◌≤◌};
+//! Tries of satisfied keys and of cores that are filled key by key.
+ghost use Rattle.std.specs.Prelude.{◌≡◌, ◌+◌, ◌<◌, ◌≤◌, All};
 
-use crate::fixtures::key_of;
+use crate::reading::key_of;
+use crate::writing::place_text;
 use atom_implies::Steps;
 use lin_model::Key;
-use outside::NoMemory;
+use row_table::RowFault;
 use sat_trie::SatTrie;
 use std::alloc::Global;
-use std::marker::Brand;
-use std::process::Abort;
-use std::sync::ledger::{Blank, Ledger};
-use std::test::Fail;
+use std::sync::ledger::Ledger;
 use unsat_trie::UnsatTrie;
 
-/// `v0 <= 3` and `v0 >= 3` under 0, `v0 <= 3` and `v0 >= 2` under 1: three nodes.
-fn satisfied(alloc: Global) -> Result<SatTrie, Fail> {
-    let equal = key_of(alloc, "v0 <= 3;v0 >= 3")?;
-    let wider = key_of(alloc, "v0 <= 3;v0 >= 2")?;
-    Ok(sat_trie_of(alloc, &equal, &wider)?)
+/// Satisfied keys, with numbers from 0 in the order in which they came.
+#[derive(Drop)]
+pub struct Satisfied {
+    next: u32,
+    trie: SatTrie,
+    ghost below: { All (λ p. p.number < next) trie },
 }
 
-/// The trie of two keys under 0 and 1.
-fn sat_trie_of(alloc: Global, first: &Key, second: &Key) -> Result<SatTrie, NoMemory> {
-    let mut trie = SatTrie::new(alloc);
-    trie.insert(first, 0)?;
-    trie.insert(second, 1)?;
-    Ok(trie)
+impl Satisfied {
+    /// No key.
+    pub fn new(alloc: Global) -> Satisfied {
+        Satisfied {
+            next: 0,
+            trie: SatTrie::new(alloc),
+        }
+    }
+
+    /// Answers a call: `new`, `put`, `find`, `first` or `first_of_three`.
+    pub fn answer<L: Ledger>(
+        &mut self,
+        alloc: Global,
+        call: &str,
+        argument: &str,
+        steps: &mut Steps<L>,
+    ) -> Result<String, RowFault> {
+        match call {
+            "new" => self.clear(alloc),
+            "put" => self.put(alloc, argument),
+            _ => {
+                let key = key_of(alloc, argument)?;
+                let place = self.look(call, &key, steps)?;
+                Ok(place_text(alloc, place)?)
+            }
+        }
+    }
+
+    /// Lets go of all keys.
+    fn clear(&mut self, alloc: Global) -> Result<String, RowFault> {
+        *self = Satisfied::new(alloc);
+        Ok(String::from_str(alloc, "0 nodes")?)
+    }
+
+    /// Of `KEY`: holds it, and answers its number and how many nodes the trie has.
+    fn put(&mut self, alloc: Global, argument: &str) -> Result<String, RowFault> {
+        let key = key_of(alloc, argument)?;
+        let number = self.hold(&key)?;
+        let nodes = self.trie.nodes();
+        Ok(format!(in alloc; "{number}, {nodes} nodes")?)
+    }
+
+    /// Holds one key more, and answers its number.
+    fn hold(&mut self, key: &Key) -> Result<u32, RowFault> {
+        let number = self.next;
+        self.next = number.checked_add(1).ok_or(RowFault::NoCall)?;
+        self.trie.insert(key, number)?;
+        Ok(number)
+    }
+
+    /// The number that is looked up for a key.
+    fn look<L: Ledger>(
+        &self,
+        call: &str,
+        key: &Key,
+        steps: &mut Steps<L>,
+    ) -> Result<Option<u32>, RowFault> {
+        match call {
+            "find" => Ok(self.trie.find(key)),
+            "first" => Ok(self.trie.first(key, steps)),
+            "first_of_three" => first_of_three(&self.trie, key, steps),
+            _ => Err(RowFault::NoCall),
+        }
+    }
 }
 
-/// `v0 - v1 <= -1` and `v0 - v1 >= 1` under 0: two nodes.
-fn refuted(alloc: Global) -> Result<UnsatTrie, Fail> {
-    let crossed = key_of(alloc, "v0 - v1 <= -1;v0 - v1 >= 1")?;
-    Ok(unsat_trie_of(alloc, &crossed)?)
+/// Cores, with numbers from 0 in the order in which they came.
+#[derive(Drop)]
+pub struct Refuted {
+    next: u32,
+    trie: UnsatTrie,
+    ghost below: { All (λ p. p.number < next) trie },
 }
 
-/// The trie of this key under 0.
-fn unsat_trie_of(alloc: Global, key: &Key) -> Result<UnsatTrie, NoMemory> {
-    let mut trie = UnsatTrie::new(alloc);
-    trie.insert(key, 0)?;
-    Ok(trie)
+impl Refuted {
+    /// No core.
+    pub fn new(alloc: Global) -> Refuted {
+        Refuted {
+            next: 0,
+            trie: UnsatTrie::new(alloc),
+        }
+    }
+
+    /// Answers a call: `new`, `put`, `find`, `first` or `first_of_two`.
+    pub fn answer<L: Ledger>(
+        &mut self,
+        alloc: Global,
+        call: &str,
+        argument: &str,
+        steps: &mut Steps<L>,
+    ) -> Result<String, RowFault> {
+        match call {
+            "new" => self.clear(alloc),
+            "put" => self.put(alloc, argument),
+            _ => {
+                let key = key_of(alloc, argument)?;
+                let place = self.look(call, &key, steps)?;
+                Ok(place_text(alloc, place)?)
+            }
+        }
+    }
+
+    /// Lets go of all keys.
+    fn clear(&mut self, alloc: Global) -> Result<String, RowFault> {
+        *self = Refuted::new(alloc);
+        Ok(String::from_str(alloc, "0 nodes")?)
+    }
+
+    /// Of `KEY`: holds it, and answers its number and how many nodes the trie has.
+    fn put(&mut self, alloc: Global, argument: &str) -> Result<String, RowFault> {
+        let key = key_of(alloc, argument)?;
+        let number = self.hold(&key)?;
+        let nodes = self.trie.nodes();
+        Ok(format!(in alloc; "{number}, {nodes} nodes")?)
+    }
+
+    /// Holds one key more, and answers its number.
+    fn hold(&mut self, key: &Key) -> Result<u32, RowFault> {
+        let number = self.next;
+        self.next = number.checked_add(1).ok_or(RowFault::NoCall)?;
+        self.trie.insert(key, number)?;
+        Ok(number)
+    }
+
+    /// The number that is looked up for a key.
+    fn look<L: Ledger>(
+        &self,
+        call: &str,
+        key: &Key,
+        steps: &mut Steps<L>,
+    ) -> Result<Option<u32>, RowFault> {
+        match call {
+            "find" => Ok(self.trie.find(key)),
+            "first" => Ok(self.trie.first(key, steps)),
+            "first_of_two" => first_of_two(&self.trie, key, steps),
+            _ => Err(RowFault::NoCall),
+        }
+    }
 }
 
 /// The first that a trie of three nodes finds for a key of at most two atoms, in at most six steps.
@@ -46,11 +164,11 @@ fn first_of_three<L: Ledger>(
     trie: &SatTrie,
     key: &Key,
     steps: &mut Steps<L>,
-) -> Result<Option<u32>, Fail>
+) -> Result<Option<u32>, RowFault>
     ensures { steps.new ≤ steps.old + 6 }
 {
     if trie.nodes() != 3 || key.atoms().len() > 2 {
-        return Err(Fail::from("three nodes and two atoms"));
+        return Err(RowFault::NoCall);
     }
     Ok(trie.first(key, steps))
 }
@@ -60,73 +178,11 @@ fn first_of_two<L: Ledger>(
     trie: &UnsatTrie,
     key: &Key,
     steps: &mut Steps<L>,
-) -> Result<Option<u32>, Fail>
+) -> Result<Option<u32>, RowFault>
     ensures { steps.new ≤ steps.old + 6 }
 {
     if trie.nodes() != 2 || key.atoms().len() > 3 {
-        return Err(Fail::from("two nodes and three atoms"));
+        return Err(RowFault::NoCall);
     }
     Ok(trie.first(key, steps))
-}
-
-#[test]
-fn the_least_number_is_found_in_few_steps(rt: HostRuntime) -> Result<(), Fail> {
-    try_satisfied::<Brand>(&rt, Blank::new(1))
-}
-
-#[test]
-fn cores_are_found_by_what_implies_them(rt: HostRuntime) -> Result<(), Fail> {
-    try_refuted::<Brand>(&rt, Blank::new(1))
-}
-
-/// `v0 <= 5` and `v0 >= 2` is covered by both keys, of which the one that sorts last has the least number. `v0 <= 2` is
-/// covered by neither.
-fn try_satisfied<L: Ledger>(rt: &(impl Abort + AllocGlobal), blank: Blank) -> Result<(), Fail>
-    requires name { blank.name ≡ L.name }
-    requires parts { blank.parts ≡ L.parts }
-    requires some { 0 < blank.parts }
-{
-    let mut steps: Steps<L> = Steps::new(blank);
-    let trie = satisfied(rt.alloc())?;
-    expect_satisfied(rt, &trie, "v0 <= 5;v0 >= 2", Some(0), &mut steps)?;
-    expect_satisfied(rt, &trie, "v0 <= 2", None, &mut steps)
-}
-
-/// Expects that this is the first that the trie of three nodes finds for the key of these atoms.
-fn expect_satisfied<L: Ledger>(
-    rt: &(impl Abort + AllocGlobal),
-    trie: &SatTrie,
-    text: &str,
-    want: Option<u32>,
-    steps: &mut Steps<L>,
-) -> Result<(), Fail> {
-    let key = key_of(rt.alloc(), text)?;
-    assert_eq!(rt; first_of_three(trie, &key, steps)?, want, "{text}");
-    Ok(())
-}
-
-/// The core is covered by tighter atoms, whatever stands beside them, and not by one of its own alone.
-fn try_refuted<L: Ledger>(rt: &(impl Abort + AllocGlobal), blank: Blank) -> Result<(), Fail>
-    requires name { blank.name ≡ L.name }
-    requires parts { blank.parts ≡ L.parts }
-    requires some { 0 < blank.parts }
-{
-    let mut steps: Steps<L> = Steps::new(blank);
-    let trie = refuted(rt.alloc())?;
-    let beside = "v0 - v1 <= -7;v0 - v1 >= 5;v0 + v1 <= 3";
-    expect_refuted(rt, &trie, beside, Some(0), &mut steps)?;
-    expect_refuted(rt, &trie, "v0 - v1 <= -1", None, &mut steps)
-}
-
-/// Expects that this is the first that the trie of two nodes finds for the key of these atoms.
-fn expect_refuted<L: Ledger>(
-    rt: &(impl Abort + AllocGlobal),
-    trie: &UnsatTrie,
-    text: &str,
-    want: Option<u32>,
-    steps: &mut Steps<L>,
-) -> Result<(), Fail> {
-    let key = key_of(rt.alloc(), text)?;
-    assert_eq!(rt; first_of_two(trie, &key, steps)?, want, "{text}");
-    Ok(())
 }

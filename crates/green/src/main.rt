@@ -1,15 +1,18 @@
-//! The program `green`: the top call over the standard streams.
+//! The program `green`: the top call over the standard streams and files of the system.
 #![tactic(auto)]
 
 ghost use Rattle.std.specs.Prelude.{◌≡◌, ◌≢◌, ◌⊎◌, IfErr};
 
+use devices::{FileDisk, StdSink, StdSource};
 use green_cli::{Fault, green, write_fault};
-use outside::{NoDisk, NoGate, StdSink, StdSource};
+use outside::NoGate;
+use std::fs::File;
 use std::io::ErrorKind;
 use std::process::ExitCode;
 use std::{env, io, rt};
 
 fn main(rt: HostRuntime) -> ExitCode {
+    let _held = hold_streams(&rt);
     let mut sink = StdSink::new(io::writer(&rt));
     let words = match words(&rt) {
         Ok(words) => words,
@@ -21,11 +24,21 @@ fn main(rt: HostRuntime) -> ExitCode {
         words.as_slice(),
         &mut source,
         &mut sink,
-        NoDisk::new(),
-        NoDisk::new(),
+        FileDisk::new(rt),
+        FileDisk::new(rt),
         &NoGate,
     );
     ExitCode::from(outcome.status)
+}
+
+/// Handles to a folder, which take the numbers of those standard streams that are closed, at most three. While they are
+/// open no other file gets such a number, so that nothing that is meant for a stream is written to it.
+fn hold_streams<R: rt::Files<File = File>>(rt: &R) -> io::Result<[File; 3]> {
+    Ok([
+        File::open(rt, "/")?,
+        File::open(rt, "/")?,
+        File::open(rt, "/")?,
+    ])
 }
 
 /// The words behind the program's own name. Words that are no text are wrong words.

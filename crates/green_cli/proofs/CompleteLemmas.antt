@@ -1,81 +1,61 @@
 -- What follows of a call that solved its session, or was refused.
-use Rattle.std.proofs.Common.{◌≡◌, ◌≢◌, ◌⊎◌, ℕ, zero, suc, ◌<◌, ◌≤◌, ◌+◌, Bool, true, false, List, [], ◌∷◌, length}
-use Rattle.std.proofs.Common.{get_or}
-use Rattle.std.proofs.Common.{length-append, Option, Some, arith, refl, sym, ap, subst, ◌∙◌, inl, inr, ⊎_elim}
+use Rattle.std.proofs.Common.{◌≡◌, ◌≢◌, ◌⊎◌, ℕ, ◌≤◌, ◌+◌, Bool, true, false, true≢false, List, [], ◌++◌, length}
+use Rattle.std.proofs.Common.{length-append, Option, None, Some, arith, refl, sym, ap, subst, ◌∙◌, inl, inr, ⊎_elim}
 use Rattle.std.specs.Prelude.{if◌then◌else◌}
-use Rattle.std.specs.List.{AllZip, Any, list_any}
-use Rattle.std.proofs.lemmas.List.Folds.{Any-from_list_any}
+use Rattle.std.specs.Option.{IfSome}
+use Rattle.clap.specs.Words.{Text as Name}
 use Rattle.outside.specs.Counts.{Rose}
+use Rattle.outside.specs.States.{DiskState, SourceState}
 use Rattle.lin_model.specs.Conditions.{PlainCondition}
-use Rattle.lin_model.specs.KeyAtom.{PlainKeyAtom}
-use Rattle.cert_check.specs.declared.reply.Reply.{Reply}
-use Rattle.cert_check.specs.Replies.{Stands, StandsFor}
+use Rattle.cert_check.specs.declared.entry.Entry.{Entry}
+use Rattle.cert_check.specs.Replies.{StandsFor}
+use Rattle.journal.specs.Recovery.{IsForeign}
 use Rattle.session_text.specs.Laws.{SpelledHasNoFault}
 use Rattle.session_text.specs.Sessions.{SpellsSession}
-use Rattle.pipeline.specs.Answers.{IsRightAnswer}
-use Rattle.pipeline.specs.Laws.{Suffices, SufficientDecides}
-use Rattle.pipeline.specs.declared.answers.Answer.{Answer}
-use Rattle.pipeline.specs.declared.answers.Verdict.{Verdict}
-use Rattle.pipeline.specs.declared.answers.Verdict.TheVariants.{Sat, UnsatAtom, UnsatSlice, Unknown}
-use Rattle.green_cli.specs.Call.{Call, KeepsDisks, NothingFails}
-use Rattle.green_cli.specs.AnswersText.{HaveAnswers, answers_text}
-use Rattle.green_cli.specs.Input.{Consumes, Drains, GivesSession, InputWasRead, TakesAtMost, max_input}
-use Rattle.green_cli.specs.Answered.{IsRightReport, LogIsLegal}
-use Rattle.green_cli.specs.Solve.{IsDoneOrStarved, IsSolved, Solves, SufficesFor, solve_cause}
-use Rattle.green_cli.specs.Statuses.{Ends, FaultIsWritten, IsEmpty, IsRefused, IsWrittenAs}
-use Rattle.green_cli.specs.Statuses.{has_unknown, is_unknown, run_status, status_of}
+use Rattle.pipeline.specs.Laws.{SufficientDecides}
+use Rattle.green_cli.specs.Call.{Call, Change}
+use Rattle.green_cli.specs.Input.{Consumes, Drains, GivesSession, TakesAtMost, max_input, session_cause}
+use Rattle.green_cli.specs.Answered.{IsRightReport}
+use Rattle.green_cli.specs.Solve.{IsDoneOrStarved, IsSolved, NoDeviceFails, SolveIsRefused, Solves, StoreCanBeOpened, SufficesFor}
+use Rattle.green_cli.specs.Solve.{UsesStore, is_off, solve_cause}
+use Rattle.green_cli.specs.Statuses.{has_full, has_lost, has_unknown, run_status, status_of}
+use Rattle.green_cli.specs.Stores.{CanBeOpened}
 use Rattle.green_cli.specs.declared.fault.Fault.{Fault}
-use Rattle.green_cli.specs.declared.fault.Fault.TheVariants.{Usage, Text, Read, NoMemory, TooLong}
+use Rattle.green_cli.specs.declared.fault.Fault.TheVariants.{Usage, Text, Read, Disk, NoMemory, NotJournal, TooLong}
 use Rattle.green_cli.specs.declared.outcome.Report.{Report}
-use Rattle.green_cli.proofs.RunLemmas.{each_right, have_answers}
-
--- ---- refusals
-
--- what a fault is written as has a cause too, where want of memory has
-cause_written : (cause : Fault → Type 0) (fault written : Fault) → cause NoMemory → cause fault
-    → IsWrittenAs fault written → cause written
-cause_written cause (Text fault) written memory reason is =
-    ⊎_elim (λ text. subst cause (sym text.0) reason) (λ none. subst cause (sym none) memory) is
-cause_written cause other written memory reason is = subst cause (sym is) reason
-
-pub refused_by : {D : Type 0} (cause : Fault → Type 0) (call : Call D) (fault : Fault) → cause NoMemory → cause fault
-    → FaultIsWritten fault call.sink call.status → IsEmpty call.report → IsRefused cause call
-refused_by cause call fault memory reason writes nothing = record {
-  fault = writes.written;
-  reason = cause_written cause fault writes.written memory reason writes.for_it;
-  writes = writes.writes;
-  nothing = nothing;
-}
-
--- no fault has the status of an unknown answer
-pub fault_not_unknown : (fault : Fault) (status : ℕ) → status ≡ status_of fault → status ≢ 3
-fault_not_unknown Usage status number e = omega (arith, number, e)
-fault_not_unknown (Text fault) status number e = omega (arith, number, e)
-fault_not_unknown Read status number e = omega (arith, number, e)
-fault_not_unknown NoMemory status number e = omega (arith, number, e)
-fault_not_unknown TooLong status number e = omega (arith, number, e)
+use Rattle.green_cli.proofs.EnoughLemmas.{none_unknown}
+use Rattle.green_cli.proofs.LostLemmas.{lost_full_or_fault, off_loses_none}
+use Rattle.green_cli.proofs.RefusalLemmas.{fault_not_unknown}
+use Rattle.green_cli.proofs.RunLemmas.{have_answers}
 
 -- ---- statuses of what was done
 
+-- 0, 3, or 4 where an entry was lost
 pub run_status_is : (report : Report) → (run_status report ≡ 0) ⊎ (run_status report ≡ 3)
-run_status_is report = go (has_unknown report.answers)
+    ⊎ ((run_status report ≡ 4) × (has_lost report.answers ≡ true))
+run_status_is report = go (has_lost report.answers) (has_unknown report.answers)
   where
-    status : Bool → ℕ
-    status b = if b then 3 else 0
+    status : Bool → Bool → ℕ
+    status lost unknown = if lost then 4 else if unknown then 3 else 0
 
-    go : (b : Bool) → (status b ≡ 0) ⊎ (status b ≡ 3)
-    go true = inr refl
-    go false = inl refl
+    go : (lost unknown : Bool) → (status lost unknown ≡ 0) ⊎ (status lost unknown ≡ 3)
+        ⊎ ((status lost unknown ≡ 4) × (lost ≡ true))
+    go true unknown = inr (inr (refl, refl))
+    go false true = inr (inl refl)
+    go false false = inl refl
 
-pub run_status_unknown : (report : Report) → run_status report ≡ 3 → has_unknown report.answers ≡ true
-run_status_unknown report = go (has_unknown report.answers)
+-- 3 tells that a query is unknown, and that nothing was lost
+pub run_status_unknown : (report : Report) → run_status report ≡ 3
+    → (has_unknown report.answers ≡ true) × (has_lost report.answers ≡ false)
+run_status_unknown report = go (has_lost report.answers) (has_unknown report.answers)
   where
-    status : Bool → ℕ
-    status b = if b then 3 else 0
+    status : Bool → Bool → ℕ
+    status lost unknown = if lost then 4 else if unknown then 3 else 0
 
-    go : (b : Bool) → status b ≡ 3 → b ≡ true
-    go true e = refl
-    go false e = absurd (omega (arith, e))
+    go : (lost unknown : Bool) → status lost unknown ≡ 3 → (unknown ≡ true) × (lost ≡ false)
+    go true unknown e = absurd (omega (arith, e))
+    go false true e = (refl, refl)
+    go false false e = absurd (omega (arith, e))
 
 -- ---- what a source that gives a session, and doesn't fail, may be refused for
 
@@ -84,133 +64,107 @@ taken_within : (all bytes : List ℕ) (new : Option (List ℕ)) → Consumes (So
 taken_within all bytes new taken = omega (arith, ap length taken.1, length-append bytes taken.0)
 
 -- nothing but want of memory
-pub only_memory : {D : Type 0} → SpelledHasNoFault → (call : Call D) (fault : Fault) → GivesSession call.source.before
-    → ¬ Rose call.source.before.faults call.source.after.faults → solve_cause call fault → fault ≡ NoMemory
-only_memory law call (Text fault) gives same cause =
+pub session_only_memory : SpelledHasNoFault → (source : Change SourceState) (fault : Fault) → GivesSession source.before
+    → ¬ Rose source.before.faults source.after.faults → session_cause source fault → fault ≡ NoMemory
+session_only_memory law source (Text fault) gives same cause =
     let read : gives.bytes ≡ cause.bytes =
-    (subst (λ (o : Option (List ℕ)). Drains o call.source.after.left cause.bytes) gives.told cause.read.whole).0 in
+    (subst (λ (o : Option (List ℕ)). Drains o source.after.left cause.bytes) gives.told cause.read.whole).0 in
     let spells : SpellsSession cause.bytes gives.session =
     subst (λ (bytes : List ℕ). SpellsSession bytes gives.session) read gives.spells in
     absurd (law cause.bytes gives.session spells fault.kind cause.placed.place cause.placed.fault)
-only_memory law call Read gives same cause = absurd (same cause.rose)
-only_memory law call NoMemory gives same cause = refl
-only_memory law call TooLong gives same cause =
-    let taken = taken_within gives.bytes cause.bytes call.source.after.left
-    (subst (λ (o : Option (List ℕ)). Consumes o call.source.after.left cause.bytes) gives.told cause.given) in
+session_only_memory law source Read gives same cause = absurd (same cause.rose)
+session_only_memory law source Disk gives same cause = absurd cause
+session_only_memory law source NoMemory gives same cause = refl
+session_only_memory law source NotJournal gives same cause = absurd cause
+session_only_memory law source TooLong gives same cause =
+    let taken = taken_within gives.bytes cause.bytes source.after.left
+    (subst (λ (o : Option (List ℕ)). Consumes o source.after.left cause.bytes) gives.told cause.given) in
     absurd (omega (arith, taken, cause.long, gives.short))
-only_memory law call _ gives same cause = absurd cause
+session_only_memory law source Usage gives same cause = absurd cause
 
-done : {D : Type 0} (budget : ℕ) (call : Call D) → IsSolved budget call → NothingFails call
-    → IsDoneOrStarved call.status
-done budget call solved nothing =
-    ⊎_elim
-    (λ whole. ⊎_elim (λ zero. inl (whole.1 ∙ zero)) (λ three. inr (inl (whole.1 ∙ three))) (run_status_is call.report))
-    (λ cut. absurd (nothing.sink cut.0.rose)) solved.result
+-- a file that can be opened is no foreign one
+pub opens_none_foreign : (disk : DiskState) → CanBeOpened disk → IfSome disk.content IsForeign → ⊥
+opens_none_foreign disk can foreign =
+    can.own (subst (λ (content : Option (List ℕ)). IfSome content IsForeign) can.told foreign)
 
--- ---- budgets that suffice
+-- ---- one call
 
--- what two relations of the items exclude is true of none of them
-none_of_zip : {A B : Type 0} (R S : A → B → Type 0) (P : B → Type 0) → ((x : A) (y : B) → R x y → S x y → P y → ⊥)
-    → (xs : List A) (ys : List B) → AllZip R xs ys → AllZip S xs ys → (k : ℕ) (y : B) → k < length ys
-    → get_or ys k y ≡ y → P y → ⊥
-none_of_zip R S P excluded [] [] r s k y within is p = absurd (omega (arith, within))
-none_of_zip R S P excluded [] (z ∷ ys) r s k y within is p = absurd r
-none_of_zip R S P excluded (x ∷ xs) [] r s k y within is p = absurd r
-none_of_zip R S P excluded (x ∷ xs) (z ∷ ys) r s zero y within is p = excluded x z r.0 s.0 (subst P (sym is) p)
-none_of_zip R S P excluded (x ∷ xs) (z ∷ ys) r s (suc k) y within is p =
-    none_of_zip R S P excluded xs ys r.1 s.1 k y (omega (arith, within)) is p
+module _ {D : Type 0} (state : D → DiskState) (budget : ℕ) (call : Call D) where
+  only_memory : (store : Option Name) → SpelledHasNoFault → (fault : Fault) → GivesSession call.source.before
+      → StoreCanBeOpened state store call → NoDeviceFails state call → solve_cause state store call fault
+      → fault ≡ NoMemory
+  only_memory None law Usage gives can none cause =
+      session_only_memory law call.source Usage gives none.others.source cause
+  only_memory None law (Text fault) gives can none cause =
+      session_only_memory law call.source (Text fault) gives none.others.source cause
+  only_memory None law Read gives can none cause =
+      session_only_memory law call.source Read gives none.others.source cause
+  only_memory None law Disk gives can none cause = absurd cause
+  only_memory None law NoMemory gives can none cause = refl
+  only_memory None law NotJournal gives can none cause = absurd cause
+  only_memory None law TooLong gives can none cause =
+      session_only_memory law call.source TooLong gives none.others.source cause
+  only_memory (Some name) law Usage gives can none cause =
+      session_only_memory law call.source Usage gives none.others.source cause
+  only_memory (Some name) law (Text fault) gives can none cause =
+      session_only_memory law call.source (Text fault) gives none.others.source cause
+  only_memory (Some name) law Read gives can none cause =
+      session_only_memory law call.source Read gives none.others.source cause
+  only_memory (Some name) law Disk gives can none cause = absurd (none.disk cause.1.rose)
+  only_memory (Some name) law NoMemory gives can none cause = refl
+  only_memory (Some name) law NotJournal gives can none cause =
+      absurd (opens_none_foreign (state call.disk.before) can cause.1.foreign)
+  only_memory (Some name) law TooLong gives can none cause =
+      session_only_memory law call.source TooLong gives none.others.source cause
 
-zip_excludes : {A B : Type 0} (R S : A → B → Type 0) (P : B → Type 0) → ((x : A) (y : B) → R x y → S x y → P y → ⊥)
-    → (xs : List A) (ys : List B) → AllZip R xs ys → AllZip S xs ys → Any P ys → ⊥
-zip_excludes R S P excluded xs ys r s any = none_of_zip R S P excluded xs ys r s any.0 any.1 any.2 any.3 any.4
+  -- where no disk failed, nothing is lost but for want of room
+  full_where_lost : (store : Option Name) (opening : List Entry) → UsesStore state store opening call
+      → IsRightReport budget opening (is_off store) call.report
+      → ¬ Rose (state call.disk.before).faults (state call.disk.after).faults
+      → has_lost call.report.answers ≡ true → has_full call.report.answers ≡ true
+  full_where_lost None opening uses right none lost =
+      absurd (true≢false (sym lost ∙ off_loses_none opening call.report right.saves))
+  full_where_lost (Some name) opening uses right none lost =
+      ⊎_elim (λ full. full) (λ fault. absurd (none (omega (arith, uses.saves.faults, fault))))
+      (lost_full_or_fault call.report lost)
 
-verdict_known : (verdict : Verdict) → ((s : ℕ) → verdict ≢ Unknown s) → is_unknown verdict ≡ true → ⊥
-verdict_known (Sat values) other unknown = cc
-verdict_known (UnsatAtom atom) other unknown = cc
-verdict_known (UnsatSlice slice) other unknown = cc
-verdict_known (Unknown slice) other unknown = other slice refl
-
--- no answer is unknown
-module _ (law : SufficientDecides) (budget : ℕ) (report : Report) where
-  none_unknown : LogIsLegal 0 budget [] report → HaveAnswers report.session report.answers → SufficesFor budget report
-      → has_unknown report.answers ≡ true → ⊥
-  none_unknown logged shape suffices any =
-      zip_excludes (λ queries script. AllZip (λ q answer. IsRightAnswer stands q answer) queries script)
-      (λ queries script. AllZip (λ q answer. Suffices budget q answer) queries script)
-      (λ script. list_any (λ answer. is_unknown answer.verdict) script ≡ true)
-      by_query report.session report.answers
-      (each_right stands report.session report.answers logged.of_seat.keys shape logged.of_seat.right) suffices
-      (Any-from_list_any _ report.answers any)
-    where
-      stands : List PlainKeyAtom → Reply → Type 0
-      stands key reply = Stands logged.log report.entries 0 budget key reply
-
-      by_query : (queries : List PlainCondition) (script : List Answer)
-          → AllZip (λ q answer. IsRightAnswer stands q answer) queries script
-          → AllZip (λ q answer. Suffices budget q answer) queries script
-          → list_any (λ answer. is_unknown answer.verdict) script ≡ true → ⊥
-      by_query queries script are suffice some =
-          zip_excludes (λ q answer. IsRightAnswer stands q answer) (λ q answer. Suffices budget q answer)
-          (λ answer. is_unknown answer.verdict ≡ true)
-          (λ q answer is enough. verdict_known answer.verdict
-          (law logged.log report.entries 0 budget q answer is enough).told)
-          queries script are suffice (Any-from_list_any _ script some)
+  done : (store : Option Name) → IsSolved state store budget call → NoDeviceFails state call → IsDoneOrStarved call
+  done store solved none =
+      ⊎_elim
+      (λ whole. ⊎_elim (λ zero. inl (whole.1 ∙ zero))
+      (λ rest. ⊎_elim (λ three. inr (inl (whole.1 ∙ three)))
+      (λ four. inr (inr (inl (
+        whole.1 ∙ four.0,
+        full_where_lost store solved.opening solved.uses solved.report none.disk four.1,
+      )))) rest)
+      (run_status_is call.report))
+      (λ cut. absurd (none.others.sink cut.0.rose)) solved.result
 
 -- ---- the whole promise
 
-solved_not_unknown : {D : Type 0} (law : SufficientDecides) (budget : ℕ) (call : Call D) → IsSolved budget call
-    → SufficesFor budget call.report → call.status ≢ 3
-solved_not_unknown law budget call solved suffices three =
-    let shape = have_answers (StandsFor call.report.log call.report.entries 0 budget) call.report.session
-    call.report.answers solved.report.answers in
-    ⊎_elim
-    (λ whole. none_unknown law budget call.report solved.report.log shape suffices
-    (run_status_unknown call.report (sym whole.1 ∙ three)))
-    (λ cut. absurd (omega (arith, cut.1, three))) solved.result
+module _ {D : Type 0} (state : D → DiskState) (store : Option Name) (budget : ℕ) (call : Call D) where
+  solved_not_unknown : SufficientDecides → IsSolved state store budget call → SufficesFor budget call.report
+      → call.status ≢ 3
+  solved_not_unknown law solved suffices three =
+      let shape = have_answers (StandsFor call.report.log call.report.entries 0 budget) call.report.session
+      call.report.answers solved.report.answers in
+      ⊎_elim
+      (λ whole. none_unknown law budget call.report solved.opening (is_off store) solved.report.log shape suffices
+      (run_status_unknown call.report (sym whole.1 ∙ three)).0)
+      (λ cut. absurd (omega (arith, cut.1, three))) solved.result
 
--- the report and what was read, with its text
-solved_by : {D : Type 0} (budget : ℕ) (call : Call D) (report : Report) (text : List ℕ) → call.report ≡ report
-    → InputWasRead call.source report.session → IsRightReport budget report
-    → text ≡ answers_text report.session report.answers → Ends text (run_status report) call.sink call.status
-    → IsSolved budget call
-solved_by budget call report text is input right spelled ends =
-    let right_so : IsRightReport budget call.report = subst (IsRightReport budget) (sym is) right in
-    let ends_so : Ends (answers_text report.session report.answers) (run_status report) call.sink call.status =
-    subst (λ (t : List ℕ). Ends t (run_status report) call.sink call.status) spelled ends in
-    record {
-      input = subst (λ (r : Report). InputWasRead call.source r.session) (sym is) input;
-      report = right_so;
-      result =
-          subst (λ (r : Report). Ends (answers_text r.session r.answers) (run_status r) call.sink call.status) (sym is)
-          ends_so;
-    }
-
-pub solves_where_answered : {D : Type 0} → SufficientDecides → (budget : ℕ) (call : Call D) (report : Report)
-    (text : List ℕ) → call.report ≡ report → InputWasRead call.source report.session
-    → IsRightReport budget report → text ≡ answers_text report.session report.answers
-    → Ends text (run_status report) call.sink call.status → KeepsDisks call
-    → TakesAtMost (max_input + 1) call.source → Solves budget call
-solves_where_answered law budget call report text is input right spelled ends disks bounded =
-    let solved = solved_by budget call report text is input right spelled ends in
-    record {
-      outcome = inl solved;
-      disks = disks;
-      bounded = bounded;
-      complete = λ gives nothing. done budget call solved nothing;
-      sufficient = solved_not_unknown law budget call solved;
-    }
-
-pub solves_where_refused : {D : Type 0} → SpelledHasNoFault → (budget : ℕ) (call : Call D) (fault : Fault)
-    → solve_cause call fault → FaultIsWritten fault call.sink call.status → IsEmpty call.report
-    → KeepsDisks call → TakesAtMost (max_input + 1) call.source → Solves budget call
-solves_where_refused law budget call fault cause writes nothing disks bounded =
-    let refused = refused_by (solve_cause call) call fault tt cause writes nothing in
-    record {
-      outcome = inr refused;
-      disks = disks;
-      bounded = bounded;
-      complete = λ gives fine.
-          let memory = only_memory law call refused.fault gives fine.source refused.reason in
-          inr (inr (refused.writes.number ∙ ap status_of memory));
-      sufficient = λ suffices. fault_not_unknown refused.fault call.status refused.writes.number;
-    }
+  -- what follows of a session that was answered, or of a call that was refused
+  pub solves_so : SpelledHasNoFault → SufficientDecides
+      → IsSolved state store budget call ⊎ SolveIsRefused state store call → call.other.after ≡ call.other.before
+      → TakesAtMost (max_input + 1) call.source → Solves state store budget call
+  solves_so spelled enough outcome other bounded = record {
+    outcome = outcome;
+    other = other;
+    bounded = bounded;
+    complete = λ gives can none. ⊎_elim (λ solved. done state budget call store solved none)
+        (λ refused. inr (inr (inr (refused.refused.writes.number
+        ∙ ap status_of (only_memory state budget call store spelled refused.refused.fault gives can none
+        refused.refused.reason.0))))) outcome;
+    sufficient = λ suffices. ⊎_elim (λ solved. solved_not_unknown enough solved suffices)
+        (λ refused. fault_not_unknown refused.refused.fault call.status refused.refused.writes.number) outcome;
+  }

@@ -2,7 +2,7 @@
 use Rattle.std.proofs.Common.{true, codes, refl, Some}
 use Rattle.clap.specs.Words.{App, Rule, new_app, new_rule, with_rule}
 use Rattle.clap.specs.declared.builder.action.ArgAction.TheVariants.{Set, SetTrue}
-use Rattle.green_cli.proofs.TakenLemmas.{IsLine}
+use Rattle.green_cli.specs.Words.{IsLine}
 
 -- `--store F`, which has to be there, and the flag `--proof`
 with_file : App

@@ -1,5 +1,5 @@
 -- Words in which `clap` finds no fault are taken, whatever the line of the command.
-use Rattle.std.proofs.Common.{◌≡◌, ◌&&◌, ◌||◌, ℕ, zero, suc, Bool, true, false, not, refl, sym, ap, subst, ◌∙◌, List}
+use Rattle.std.proofs.Common.{◌≡◌, ◌&&◌, ◌||◌, ℕ, zero, suc, Bool, true, false, not, refl, sym, ap, ◌∙◌, List}
 use Rattle.std.proofs.Common.{[], ◌∷◌, length, drop, is_some, nat_le, Option, Some, None, true≢false, arith, codes}
 use Rattle.std.proofs.lemmas.Bool.{and_from}
 use Rattle.std.proofs.lemmas.Bool.Decides.{nat_tests}
@@ -17,13 +17,13 @@ use Rattle.clap.specs.Walk.{Held, Names, Row, Rule, Step, Text, Walk, action_of,
 use Rattle.clap.specs.Walk.{arg_by_short, attached_value, finished, first_of, has_row, is_pending, most_values, next}
 use Rattle.clap.specs.Walk.{nothing_held, reacted, settled, subcommand, subcommand_met, takes_several, takes_values}
 use Rattle.clap.specs.Walk.{trailing, value, values_or_missing, walk, walk_from, walked, word_met}
-use Rattle.clap.specs.Simple.{App, HasMatchesOf, Shape, argument_words, built, is_simple}
+use Rattle.clap.specs.Simple.{App, HasMatchesOf, Shape, argument_words, built}
 use Rattle.clap.specs.Takes.{is_given, action_passes, bundle_passes, bundle_step_passes, count_passes, default_passes}
 use Rattle.clap.specs.Takes.{flag_word_passes, flags_pass, is_valid, level_passes, long_passes, option_passes}
 use Rattle.clap.specs.Takes.{other_passes, positional_passes, react_passes, set_passes, settle_passes, short_passes}
 use Rattle.clap.specs.Takes.{step_passes, takes, turn_passes, use_passes, values_pass, walk_passes, word_passes}
 use Rattle.clap.specs.Faults.{action_fault, bundle_fault, bundle_step_fault, check_fault, count_fault, defaults_fault}
-use Rattle.clap.specs.Faults.{fault_of, flag_word_fault, flags_fault, has_free_rules, is_free_app, is_simple_and_free}
+use Rattle.clap.specs.Faults.{fault_of, flag_word_fault, flags_fault, has_free_rules, is_simple_and_free}
 use Rattle.clap.specs.Faults.{level_fault, long_fault, option_fault, other_fault, positional_fault, react_fault}
 use Rattle.clap.specs.Faults.{repeat_fault, set_fault, settle_fault, short_fault, step_fault, stray_fault, turn_fault}
 use Rattle.clap.specs.Faults.{use_fault, values_fault, walk_fault, word_fault}
@@ -38,7 +38,7 @@ use Rattle.clap.specs.declared.parser.matches.ArgMatches.{ArgMatches}
 use Rattle.clap.proofs.FaultLemmas.{leaf_fault}
 use Rattle.clap.proofs.TakesLemmas.{leaf_takes}
 use Rattle.clap.proofs.WalkLemmas.{both, first_value-rows}
-use Rattle.green_cli.specs.Words.{AreTaken, value_among}
+use Rattle.green_cli.specs.Words.{AreTaken, IsLine, value_among}
 
 -- ---- steps of tests and of lists of kinds
 
@@ -322,15 +322,6 @@ level_taken s h words defaults free e =
 
 -- ---- a line
 
--- What the line of a command keeps, whatever its options: `clap` reads it as a simple command without subcommands, no
--- argument has a rule on another, and each default is a value that its option takes. Options and positional arguments
--- may be required.
-pub record IsLine (line : App) : Type 0 where
-  pub simple : is_simple line ≡ true
-  pub free : is_free_app (built line) ≡ true
-  pub alone : (built line).subs ≡ []
-  pub defaults : list_all default_passes (built line).top.rules ≡ true
-
 no_fault_taken : (line : App) (words : List Text) → IsLine line → fault_of line words ≡ [] → takes line words ≡ true
 no_fault_taken line words is e =
     let a = built line in
@@ -340,23 +331,19 @@ no_fault_taken line words is e =
     (leaf_takes a nothing_held behind is.alone
     (level_taken a.top nothing_held behind is.defaults free (sym (leaf_fault a nothing_held behind is.alone) ∙ e)))
 
--- a parse without a fault says that the words are taken, and a refused one that they aren't
-pub taken_by : (line app : App) (words : List Text) → IsLine line → app ≡ line
-    → (is_simple_and_free app ≡ true → fault_of app words ≡ []) → AreTaken line words
+-- a parse without a fault says that the words are taken
+pub taken_by : (line : App) (words : List Text) → IsLine line
+    → (is_simple_and_free line ≡ true → fault_of line words ≡ []) → AreTaken line words
 unfolding AreTaken
-taken_by line app words is same none =
-    no_fault_taken line words is
-    (subst (λ a. is_simple_and_free a ≡ true → fault_of a words ≡ []) same none (and_from _ _ is.simple is.free))
+taken_by line words is none = no_fault_taken line words is (none (and_from _ _ is.simple is.free))
 
-pub refused_by : (line app : App) (words : List Text) (P : Type 0) → app ≡ line → (takes app words ≡ true → P)
-    → AreTaken line words → P
+-- words that are taken are so by the test that clauses of `clap` cite
+pub takes_by : (line : App) (words : List Text) → AreTaken line words → takes line words ≡ true
 unfolding AreTaken
-refused_by line app words P same refused taken = subst (λ a. takes a words ≡ true → P) same refused taken
+takes_by line words taken = taken
 
 -- the value that the matches give is that of the words
-pub value_by : (line app : App) (id : Text) (words : List Text) (m : ArgMatches) → IsLine line → app ≡ line
-    → HasMatchesOf app words m → first_value (found_of m) id ≡ value_among line id words
+pub value_by : (line : App) (id : Text) (words : List Text) (m : ArgMatches) → IsLine line
+    → HasMatchesOf line words m → first_value (found_of m) id ≡ value_among line id words
 unfolding value_among
-value_by line app id words m is same has =
-    first_value-rows (found_of m) id
-    ∙ ap (first_of id) (subst (λ a. HasMatchesOf a words m) same has is.simple).0
+value_by line id words m is has = first_value-rows (found_of m) id ∙ ap (first_of id) (has is.simple).0

@@ -80,6 +80,11 @@ pub record InputWasRead (source : Change SourceState) (session : List (List Plai
   pub read : WasRead source bytes
   pub spells : SpellsSession bytes session
 
+-- the input, read to its end, spells some session
+pub record SessionWasRead (source : Change SourceState) : Type 0 where
+  pub session : List (List PlainCondition)
+  pub input : InputWasRead source session
+
 -- the input, read to its end, is no session, and this is its first fault; want of memory is none
 pub record InputIsFaulty (source : Change SourceState) (fault : SessionFault) : Type 0 where
   pub bytes : List ℕ

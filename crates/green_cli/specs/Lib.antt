@@ -2,10 +2,16 @@ pub mod Answered
 pub mod AnswersText
 pub mod Call
 pub mod Commands
+pub mod Dump
+pub mod DumpText
+pub mod Ends
 pub mod Input
 pub mod Laws
 pub mod Lines
+pub mod Opened
+pub mod Saves
 pub mod Solve
 pub mod StatusLaws
 pub mod Statuses
+pub mod Stores
 pub mod Words

@@ -8,7 +8,7 @@ use Rattle.lin_text.specs.declared.fault.SessionKind.TheVariants.{Token, Syntax,
 use Rattle.lin_text.specs.declared.fault.SessionKind.TheVariants.{EmptyRange, TooManyVars, TooManyAtoms, TooManyTerms}
 use Rattle.lin_text.specs.declared.fault.SessionKind.TheVariants as kind
 use Rattle.green_cli.specs.declared.fault.Fault.{Fault}
-use Rattle.green_cli.specs.declared.fault.Fault.TheVariants.{Usage, Text, Read, NoMemory, TooLong}
+use Rattle.green_cli.specs.declared.fault.Fault.TheVariants.{Usage, Text, Read, Disk, NoMemory, NotJournal, TooLong}
 
 -- the printed name of each kind of fault; want of memory is no fault of a text and has none
 unfoldable pub kind_text : SessionKind → List ℕ
@@ -38,5 +38,7 @@ unfoldable pub line_of : Fault → List ℕ
 line_of Usage = line (codes "fault usage")
 line_of (Text fault) = text_line fault
 line_of Read = line (codes "fault read")
+line_of Disk = line (codes "fault disk")
 line_of NoMemory = line (codes "fault memory")
+line_of NotJournal = line (codes "fault not-a-journal")
 line_of TooLong = line (codes "fault too-long")

@@ -5,13 +5,20 @@ use Rattle.outside.specs.Bytes.{Appends, AppendsFront}
 use Rattle.outside.specs.Counts.{Rose}
 use Rattle.outside.specs.States.{SinkState}
 use Rattle.lin_text.specs.declared.fault.SessionKind.TheVariants as kind
+use Rattle.journal.specs.declared.recovered.StartFault.{StartFault}
+use Rattle.journal.specs.declared.recovered.StartFault.TheVariants as start
+use Rattle.cert_check.specs.declared.reply.Reply.{Reply}
+use Rattle.cert_check.specs.declared.saved.Saved.{Saved}
+use Rattle.cert_check.specs.declared.saved.Saved.TheVariants.{At, Full, Off}
+use Rattle.cert_check.specs.declared.saved.Saved.TheVariants as saved
 use Rattle.pipeline.specs.declared.answers.Answer.{Answer}
 use Rattle.pipeline.specs.declared.answers.Verdict.{Verdict}
 use Rattle.pipeline.specs.declared.answers.Verdict.TheVariants.{Sat, UnsatAtom, UnsatSlice, Unknown}
+use Rattle.green_cli.specs.Answered.{says}
 use Rattle.green_cli.specs.Call.{Call, Change}
 use Rattle.green_cli.specs.Lines.{line_of}
 use Rattle.green_cli.specs.declared.fault.Fault.{Fault}
-use Rattle.green_cli.specs.declared.fault.Fault.TheVariants.{Usage, Text, Read, NoMemory, TooLong}
+use Rattle.green_cli.specs.declared.fault.Fault.TheVariants.{Usage, Text, Read, Disk, NoMemory, NotJournal, TooLong}
 use Rattle.green_cli.specs.declared.outcome.Report.{Report}
 
 -- ---- writing
@@ -42,9 +49,35 @@ is_unknown (Unknown slice) = true
 abbrev pub has_unknown : List (List Answer) → Bool
 has_unknown answers = list_any (λ script. list_any (λ answer. is_unknown answer.verdict) script) answers
 
+-- what became of an entry in a journal that is on: it wasn't saved
+abbrev pub is_lost : Saved → Bool
+is_lost (At at) = false
+is_lost saved.Fault = true
+is_lost Full = true
+is_lost Off = false
+
+-- and it wasn't saved for want of room
+abbrev pub is_full : Saved → Bool
+is_full (At at) = false
+is_full saved.Fault = false
+is_full Full = true
+is_full Off = false
+
+-- some reply passes the test
+abbrev pub some_part : (Reply → Bool) → List (List Answer) → Bool
+some_part test answers = list_any (λ script. list_any (λ answer. list_any test answer.parts) script) answers
+
+-- some entry wasn't saved
+abbrev pub has_lost : List (List Answer) → Bool
+has_lost answers = some_part (says is_lost) answers
+
+-- some entry wasn't saved for want of room
+abbrev pub has_full : List (List Answer) → Bool
+has_full answers = some_part (says is_full) answers
+
 -- the status of a command that was done and whose result was written
 abbrev pub run_status : Report → ℕ
-run_status report = if has_unknown report.answers then 3 else 0
+run_status report = if has_lost report.answers then 4 else if has_unknown report.answers then 3 else 0
 
 -- a text was written whole, with the status of a run, or the sink failed, with status 13
 abbrev pub Ends : List ℕ → ℕ → Change SinkState → ℕ → Type 0
@@ -61,8 +94,16 @@ abbrev pub status_of : Fault → ℕ
 status_of Usage = 10
 status_of (Text fault) = 11
 status_of Read = 12
+status_of Disk = 14
 status_of NoMemory = 16
+status_of NotJournal = 17
 status_of TooLong = 18
+
+-- the fault of a call whose file can't be opened
+abbrev pub fault_of_start : StartFault → Fault
+fault_of_start start.Disk = Disk
+fault_of_start start.NotJournal = NotJournal
+fault_of_start start.NoMemory = NoMemory
 
 -- a report of nothing
 pub record IsEmpty (report : Report) : Type 0 where

@@ -1,20 +1,22 @@
 //! How a call ends: its text is written, or the line of a fault is.
 ghost use Rattle.std.specs.Prelude.{◌≡◌};
+ghost use Rattle.green_cli.specs.Answered.{says};
 ghost use Rattle.green_cli.specs.Call.{change};
-ghost use Rattle.green_cli.specs.Statuses.{Ends, FaultIsWritten, IsEmpty, has_unknown, is_unknown, run_status};
+ghost use Rattle.green_cli.specs.Statuses.{Ends, FaultIsWritten, IsEmpty, has_lost, has_unknown, is_lost};
+ghost use Rattle.green_cli.specs.Statuses.{is_unknown, run_status};
 ghost use Rattle.std.specs.List.{list_any};
 
 use crate::fault::Fault;
 use crate::outcome::{Outcome, Report};
 use crate::refusal::write_fault;
-use lin_model::Session;
+use cert_check::{Reply, Saved};
 use outside::{Disk, Sink};
 use pipeline::{Answer, Verdict};
 use sqlite_items::Items;
 use std::alloc::Global;
 
 /// Writes the text of a report, and ends the call with the status that goes with it: 13 where the sink fails, and else
-/// 3 where some query was left undecided, and 0 where none was.
+/// 4 where some entry wasn't saved, 3 where some query was left undecided, and 0 where neither was.
 pub fn finish<K: Sink, D: Disk>(
     report: Report,
     text: &[u8],
@@ -54,22 +56,9 @@ pub fn refuse<K: Sink, D: Disk>(
 {
     Outcome {
         status: write_fault(alloc, fault, sink),
-        report: empty_report(alloc),
+        report: Report::of_entries(alloc, Vec::new(alloc)),
         disk,
         other,
-    }
-}
-
-/// The report of a call that was refused.
-fn empty_report(alloc: Global) -> Report
-    ensures { IsEmpty result }
-{
-    Report {
-        session: Session::new(Vec::new(alloc)),
-        answers: Items::new(alloc),
-        log: Items::new(alloc),
-        entries: Items::new(alloc),
-        saved: 0,
     }
 }
 
@@ -77,11 +66,50 @@ fn empty_report(alloc: Global) -> Report
 fn status_of_run(report: &Report) -> u8
     ensures { result ≡ run_status report.now }
 {
-    if leaves_unknown(report.answers.as_slice()) {
+    let answers = report.answers.as_slice();
+    if loses_entries(answers) {
+        4
+    } else if leaves_unknown(answers) {
         3
     } else {
         0
     }
+}
+
+/// Whether some entry wasn't saved in a journal that is on.
+fn loses_entries(answers: &[Items<Answer>]) -> bool
+    ensures { result ≡ has_lost answers.now }
+{
+    answers.iter().any(|script| script_loses(script.as_slice()))
+}
+
+fn script_loses(answers: &[Answer]) -> bool
+    ensures { result ≡ list_any (λ answer. list_any (says is_lost) answer.parts) answers.now }
+{
+    answers
+        .iter()
+        .any(|answer| parts_lose(answer.parts.as_slice()))
+}
+
+fn parts_lose(parts: &[Reply]) -> bool
+    ensures { result ≡ list_any (says is_lost) parts.now }
+{
+    parts.iter().any(|reply| reply_loses(reply))
+}
+
+fn reply_loses(reply: &Reply) -> bool
+    ensures { result ≡ says is_lost reply.now }
+{
+    match reply {
+        Reply::Solved { saved, .. } | Reply::Unkept { saved, .. } => wasnt_saved(saved),
+        Reply::Hit { .. } | Reply::Spent { .. } => false,
+    }
+}
+
+fn wasnt_saved(saved: &Saved) -> bool
+    ensures { result ≡ is_lost saved.now }
+{
+    matches!(saved, Saved::Fault | Saved::Full)
 }
 
 /// Whether some query was left undecided.

@@ -2,6 +2,7 @@
 ghost use Rattle.std.specs.Prelude.{◌≡◌};
 ghost use Rattle.green_cli.specs.Statuses.{status_of};
 
+use journal::StartFault;
 use lin_text::{SessionFault, SessionKind};
 use outside::NoMemory;
 use std::alloc::{AllocError, AllocFailed};
@@ -15,8 +16,12 @@ pub enum Fault {
     Text(SessionFault),
     /// The source failed. Status 12.
     Read,
+    /// The disk failed while a file was opened. Status 14.
+    Disk,
     /// Memory ran out. Status 16.
     NoMemory,
+    /// The file has more than 8 bytes, and the first 8 aren't those of a journal. Status 17.
+    NotJournal,
     /// More than 16,777,216 bytes came. Status 18.
     TooLong,
 }
@@ -30,7 +35,9 @@ impl Fault {
             Fault::Usage => 10,
             Fault::Text(_) => 11,
             Fault::Read => 12,
+            Fault::Disk => 14,
             Fault::NoMemory => 16,
+            Fault::NotJournal => 17,
             Fault::TooLong => 18,
         }
     }
@@ -48,6 +55,20 @@ impl From<SessionFault> for Fault {
         match fault.kind {
             SessionKind::NoMemory => Fault::NoMemory,
             _ => Fault::Text(fault),
+        }
+    }
+}
+
+impl From<StartFault> for Fault {
+    ghost use Rattle.green_cli.specs.Statuses.{fault_of_start};
+
+    ghost from_gives = { λ from fault. fault ≡ fault_of_start from };
+
+    fn from(fault: StartFault) -> Fault {
+        match fault {
+            StartFault::Disk => Fault::Disk,
+            StartFault::NotJournal => Fault::NotJournal,
+            StartFault::NoMemory => Fault::NoMemory,
         }
     }
 }

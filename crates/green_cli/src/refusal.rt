@@ -23,7 +23,9 @@ pub fn write_fault<K: Sink>(alloc: Global, fault: Fault, sink: &mut K) -> u8
             Err(NoMemory) => write_line(Fault::NoMemory, MEMORY_LINE.as_bytes(), sink),
         },
         Fault::Read => write_line(fault, "fault read\n".as_bytes(), sink),
+        Fault::Disk => write_line(fault, "fault disk\n".as_bytes(), sink),
         Fault::NoMemory => write_line(fault, MEMORY_LINE.as_bytes(), sink),
+        Fault::NotJournal => write_line(fault, "fault not-a-journal\n".as_bytes(), sink),
         Fault::TooLong => write_line(fault, "fault too-long\n".as_bytes(), sink),
     }
 }

@@ -4,6 +4,7 @@ ghost use Rattle.std.specs.String.{string_bytes};
 ghost use Rattle.green_cli.specs.Call.{change};
 ghost use Rattle.green_cli.specs.Commands.{Does, DoesAsAsked};
 
+use crate::dump::dump;
 use crate::ending::refuse;
 use crate::fault::Fault;
 use crate::outcome::Outcome;
@@ -23,7 +24,7 @@ pub fn green<S: Source, K: Sink, D: Disk + Send, G: Gate + Sync>(
     other: D,
     _gate: &G,
 ) -> Outcome<D>
-    ensures does { DoesAsAsked (map string_bytes words.now) (record {
+    ensures does { DoesAsAsked D.state (map string_bytes words.now) (record {
       source = change (S.state source.old) (S.state source.new);
       sink = change (K.state sink.old) (K.state sink.new);
       disk = change disk result.disk;
@@ -40,18 +41,23 @@ pub fn green<S: Source, K: Sink, D: Disk + Send, G: Gate + Sync>(
     }
 }
 
-/// Does a command, and hands the disks back as they are. The statuses of `solve`:
+/// Does a command, and hands the disks back: the second as it is, and the first too unless a store is named. The
+/// statuses of `solve`:
 ///
 /// 0: the whole input spells the session of the report; each answer is right for the log and the entries there, and
-/// tells sat or unsat; the sink took the whole text of the answers. 3: the same, but some answer is `Unknown`. 13: the
-/// sink failed and took a front of the text.
+/// tells sat or unsat; each entry that was solved is saved, if a store is named; the sink took the whole text of the
+/// answers. 3: the same, but some answer is `Unknown`. 4: the same as 0 or 3, but some entry wasn't saved, since the
+/// disk failed or the file was full. 13: the sink failed and took a front of the text.
 ///
 /// The others write a line of their own, or a front of it where the sink fails, and leave the report empty. 11: the
-/// input is no session; the line tells its first fault. 12: the source failed. 16: memory ran out. 18: more than
-/// 16,777,216 bytes came.
+/// input is no session; the line tells its first fault. 12: the source failed. 14: the disk failed while the store was
+/// opened. 16: memory ran out. 17: the store is no journal. 18: more than 16,777,216 bytes came.
 ///
-/// A session's text within the limit, and no fault of source or sink, give 0, 3 or 16; and 3 doesn't come where the
-/// budget is at least the room of the key of each slice that was asked.
+/// A session's text within the limit, a store that can be opened, and no fault of source, sink or disk give 0, 3 or 16,
+/// or 4 where the file was full; and 3 doesn't come where the budget is at least the room of the key of each slice that
+/// was asked.
+///
+/// The statuses of `dump` are 0, 13, 14, 16 and 17, for the same reasons; the file isn't written.
 pub fn run_once<S: Source, K: Sink, D: Disk>(
     alloc: Global,
     command: &Command,
@@ -60,7 +66,7 @@ pub fn run_once<S: Source, K: Sink, D: Disk>(
     disk: D,
     other: D,
 ) -> Outcome<D>
-    ensures { Does command.now (record {
+    ensures { Does D.state command.now (record {
       source = change (S.state source.old) (S.state source.new);
       sink = change (K.state sink.old) (K.state sink.new);
       disk = change disk result.disk;
@@ -70,6 +76,15 @@ pub fn run_once<S: Source, K: Sink, D: Disk>(
     }) }
 {
     match command {
-        Command::Solve { budget } => solve(alloc, *budget, source, sink, disk, other),
+        Command::Solve { store, budget } => solve(
+            alloc,
+            store.as_ref(),
+            *budget,
+            source,
+            sink,
+            disk,
+            other,
+        ),
+        Command::Dump { store } => dump(alloc, store, sink, disk, other),
     }
 }

@@ -1,69 +1,31 @@
 //! The words of a command line.
-ghost use Rattle.std.specs.Prelude.{◌≡◌, ◌≢◌, ◌↔◌, ◌<◌, ◌≤◌, ◌^◌, ℕ, Some, map, option_map, slice_get};
-ghost use Rattle.std.specs.Prelude.{IsTrue, IfOk, MatchOption, OnOk, codes};
+ghost use Rattle.std.specs.Prelude.{◌≡◌, ◌↔◌, ℕ, Some, IsTrue, IfOk, MatchResult, OnOk, codes, map, option_map};
+ghost use Rattle.std.specs.Prelude.{slice_get};
 ghost use Rattle.std.specs.String.{string_bytes};
 ghost use Rattle.clap.specs.Words.{app_of};
-ghost use Rattle.green_cli.specs.Words.{AreCommand, AreTaken, IsCommand, IsNumber, SpellsBudget, solve_line};
-ghost use Rattle.green_cli.specs.Words.{value_among};
+ghost use Rattle.green_cli.specs.Words.{AreCommand, AreTaken, GivesValues, IsBudget, IsCommand, IsLine, dump_line};
+ghost use Rattle.green_cli.specs.Words.{solve_line};
 
+use crate::budget::{Budget, DEFAULT_BUDGET, parse_budget};
+use crate::file_name::FileName;
 use clap::error::ErrorKind;
-use clap::{Arg, ArgAction};
+use clap::{Arg, ArgAction, ArgMatches};
 use std::alloc::{AllocError, Global};
-use std::marker::Model;
 use thiserror::Error;
-
-/// The most splits that a query may be given for a slice.
-pub const MAX_BUDGET: u32 = 100_000;
-
-/// The splits that a query is given for a slice where the words don't say.
-pub const DEFAULT_BUDGET: u32 = 4_096;
-
-/// The most digits that a number in the words may have.
-const MAX_DIGITS: usize = 10;
-
-/// How many splits a query is given for each of its slices: 1 to 100,000.
-#[derive(Clone, Copy, Debug, PartialEq, Eq)]
-pub struct Budget {
-    splits: u32,
-}
-
-impl Model for Budget {
-    ghost use Rattle.std.specs.Prelude.{ℕ, ◌≤◌};
-
-    ghost Value = { ℕ };
-
-    ghost view = { λ budget. budget.splits };
-
-    ghost invariant = { λ budget. (1 ≤ budget.splits) × (budget.splits ≤ 100000) };
-
-    ghost inverse = { λ n. record { splits = n } };
-}
-
-impl Budget {
-    /// The budget of this many splits.
-    pub fn new(splits: u32) -> Budget
-        requires some { 1 ≤ splits }
-        requires few { splits ≤ 100000 }
-        ensures { result ≡ splits }
-    {
-        Budget { splits }
-    }
-
-    /// How many splits it is.
-    pub fn splits(self) -> u32
-        ensures splits { result ≡ self }
-        ensures some { 1 ≤ result }
-        ensures few { result ≤ 100000 }
-    {
-        self.splits
-    }
-}
 
 /// What the words ask for.
 #[derive(Debug, Drop, PartialEq, Eq)]
 pub enum Command {
-    /// Reads a session, answers its queries in order, and writes the answers.
-    Solve { budget: Budget },
+    /// Reads a session, answers its queries in order, and writes the answers. Where a store is named, its entries are
+    /// found, and those that are solved are saved there.
+    Solve {
+        store: Option<FileName>,
+        budget: Budget,
+    },
+    /// Writes the entries of a store as text.
+    Dump {
+        store: FileName,
+    },
 }
 
 /// Why words are no command.
@@ -105,76 +67,119 @@ impl From<clap::Error> for WordsFault {
     }
 }
 
-/// The command that the words ask for, without the program's own name: `solve`, and after it `--budget N`
-/// or nothing, as `clap` takes it. N is 1 to 10 digits of a number from 1 to 100,000. `Usage` comes exactly
-/// where the words ask for no command, unless memory ran out.
+/// The command that the words ask for, without the program's own name: `solve`, and after it `--store F` and `--budget
+/// N`, each once or not at all, or `dump`, and after it `--store F`, as `clap` takes them. F is any text, and N is 1 to
+/// 10 digits of a number from 1 to 100,000. `Usage` comes exactly where the words ask for no command, unless memory ran
+/// out.
 pub fn read_words(alloc: Global, words: &[String]) -> Result<Command, WordsFault>
     ensures command { IfOk result (IsCommand (map string_bytes words.now)) }
     ensures usage { result ≡ Err WordsFault.Usage → ¬ AreCommand (map string_bytes words.now) }
 {
-    if !begins_with_solve(words) {
-        return Err(WordsFault::Usage);
+    if begins_with(words, "solve") {
+        read_solve(alloc, words)
+    } else if begins_with(words, "dump") {
+        read_dump(alloc, words)
+    } else {
+        Err(WordsFault::Usage)
     }
-    let budget = match budget_value(alloc, words)? {
-        Some(text) => parse_budget(text).ok_or(WordsFault::Usage)?,
-        None => Budget::new(DEFAULT_BUDGET),
-    };
-    Ok(Command::Solve { budget })
 }
 
-/// Whether the first word is `solve`.
-fn begins_with_solve(words: &[String]) -> bool
-    ensures { IsTrue result ↔ (slice_get (map string_bytes words.now) 0 ≡ Some (codes "solve")) }
+/// Whether this is the first word.
+fn begins_with(words: &[String], first: &str) -> bool
+    ensures { IsTrue result ↔ (slice_get (map string_bytes words.now) 0 ≡ Some first.now) }
 {
     match words.first() {
-        Some(word) => is_solve(word),
+        Some(word) => is_text(word, first),
         None => false,
     }
 }
 
-fn is_solve(word: &String) -> bool
-    ensures { IsTrue result ↔ (string_bytes word.now ≡ codes "solve") }
+fn is_text(word: &String, text: &str) -> bool
+    ensures { IsTrue result ↔ (string_bytes word.now ≡ text.now) }
 {
-    word.as_str() == "solve"
+    word.as_str() == text
+}
+
+/// What words ask for that begin with `solve`.
+fn read_solve(alloc: Global, words: &[String]) -> Result<Command, WordsFault>
+    requires { slice_get (map string_bytes words.now) 0 ≡ Some (codes "solve") }
+    ensures command { IfOk result (IsCommand (map string_bytes words.now)) }
+    ensures usage { result ≡ Err WordsFault.Usage → ¬ AreCommand (map string_bytes words.now) }
+{
+    let matches = take_words(solve_command(alloc)?, words)?;
+    let budget = budget_of(matches.get_str("budget"))?;
+    let store = name_of(alloc, matches.get_str("store"))?;
+    Ok(Command::Solve { store, budget })
+}
+
+/// What words ask for that begin with `dump`.
+fn read_dump(alloc: Global, words: &[String]) -> Result<Command, WordsFault>
+    requires { slice_get (map string_bytes words.now) 0 ≡ Some (codes "dump") }
+    ensures command { IfOk result (IsCommand (map string_bytes words.now)) }
+    ensures usage { result ≡ Err WordsFault.Usage → ¬ AreCommand (map string_bytes words.now) }
+{
+    let matches = take_words(dump_command(alloc)?, words)?;
+    match name_of(alloc, matches.get_str("store"))? {
+        Some(store) => Ok(Command::Dump { store }),
+        None => Err(WordsFault::Usage),
+    }
 }
 
 /// The options of `solve`.
 fn solve_command<'a>(alloc: Global) -> Result<clap::Command<'a>, AllocError>
     ensures { IfOk result (λ command. app_of command ≡ solve_line) }
 {
+    let store = Arg::new(alloc, "store")
+        .long("store")
+        .action(ArgAction::Set);
     let budget = Arg::new(alloc, "budget")
         .long("budget")
         .action(ArgAction::Set);
-    clap::Command::new(alloc, "solve").arg(budget)
+    clap::Command::new(alloc, "solve").arg(store)?.arg(budget)
 }
 
-/// The value of `--budget`, where the words give it.
-fn budget_value<'a>(alloc: Global, words: &'a [String]) -> Result<Option<&'a str>, WordsFault>
-    ensures taken { OnOk result (AreTaken solve_line (map string_bytes words.entry.now)) }
-    ensures value { IfOk result (λ value. option_map (λ text. text.now) value
-        ≡ value_among solve_line (codes "budget") (map string_bytes words.entry.now)) }
-    ensures usage { result ≡ Err WordsFault.Usage → ¬ AreTaken solve_line (map string_bytes words.entry.now) }
+/// The option of `dump`.
+fn dump_command<'a>(alloc: Global) -> Result<clap::Command<'a>, AllocError>
+    ensures { IfOk result (λ command. app_of command ≡ dump_line) }
 {
-    let matches = solve_command(alloc)?.try_get_matches_from(words)?;
-    Ok(matches.get_str("budget"))
+    let store = Arg::new(alloc, "store")
+        .long("store")
+        .action(ArgAction::Set)
+        .required(true);
+    clap::Command::new(alloc, "dump").arg(store)
 }
 
-/// The budget that a text spells, where it does.
-fn parse_budget(text: &str) -> Option<Budget>
-    ensures { MatchOption result ((splits : ℕ) → ¬ SpellsBudget text.now splits) (SpellsBudget text.now) }
+/// What `clap` finds in the words after the first, for this command.
+fn take_words<'a>(
+    command: clap::Command<'a>,
+    words: &'a [String],
+) -> Result<ArgMatches<'a>, WordsFault>
+    requires { IsLine (app_of command) }
+    ensures taken { OnOk result (AreTaken (app_of command.entry) (map string_bytes words.entry.now)) }
+    ensures values { IfOk result (GivesValues (app_of command.entry) (map string_bytes words.entry.now)) }
+    ensures usage { result ≡ Err WordsFault.Usage
+        → ¬ AreTaken (app_of command.entry) (map string_bytes words.entry.now) }
 {
-    match parse_number(text) {
-        Some(splits) if 1 <= splits && splits <= MAX_BUDGET => Some(Budget::new(splits)),
-        _ => None,
+    Ok(command.try_get_matches_from(words)?)
+}
+
+/// The budget by the value of `--budget`, if there is one.
+fn budget_of(text: Option<&str>) -> Result<Budget, WordsFault>
+    ensures { MatchResult result (IsBudget (option_map (λ text. text.now) text.entry))
+        (λ _. (splits : ℕ) → ¬ IsBudget (option_map (λ text. text.now) text.entry) splits) }
+{
+    match text {
+        Some(text) => parse_budget(text).ok_or(WordsFault::Usage),
+        None => Ok(Budget::new(DEFAULT_BUDGET)),
     }
 }
 
-/// The number that a text of 1 to 10 digits spells, where it is one below 2^32.
-fn parse_number(text: &str) -> Option<u32>
-    ensures { MatchOption result ((n : ℕ) → n < 2 ^ 32 → ¬ IsNumber text.now n) (IsNumber text.now) }
+/// The name of a file by the value of `--store`, if there is one.
+fn name_of(alloc: Global, text: Option<&str>) -> Result<Option<FileName>, AllocError>
+    ensures { IfOk result (λ name. name ≡ option_map (λ text. text.now) text.entry) }
 {
-    if text.len() > MAX_DIGITS || text.starts_with('+') {
-        return None;
-    }
-    text.parse::<u32>().ok()
+    Ok(match text {
+        Some(text) => Some(FileName::new(String::from_str(alloc, text)?)),
+        None => None,
+    })
 }

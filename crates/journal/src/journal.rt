@@ -64,6 +64,7 @@ impl<D: Disk> Journal<D> {
     pub fn recover(alloc: Global, disk: D) -> Result<(Journal<D>, Recovered), (StartFault, D)>
         ensures opens { IfOk result (λ opened. Opens opened.1 (D.state disk) (D.state opened.0.disk)) }
         ensures fresh { IfOk result (λ opened. IsFresh opened.1.entries.items opened.0) }
+        ensures list { IfOk result (λ opened. opened.1.entries.items ≡ list_of opened.0) }
         ensures in_order { IfOk result (λ opened. IsInOrder opened.1) }
         ensures kept { IfOk result (λ opened. KeepsJournal D.state opened.0) }
         ensures whole { IfOk result (λ opened. opened.1.stopped ≡ None → IsWhole D.state opened.0) }

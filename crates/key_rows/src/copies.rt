@@ -1,35 +1,15 @@
-//! Keys that are copied and compared, with ample memory.
-
-use lin_model::{Form, FormTerm, Key, KeyAtom, Op};
+//! The call on keys that are copied and compared: `copy`.
+use crate::reading::{halves, key_of};
+use row_table::RowFault;
 use std::alloc::Global;
-use std::test::Fail;
 
-#[test]
-fn a_copied_key_equals_the_key_and_no_other(rt: HostRuntime) -> Result<(), Fail> {
-    let key = key_of(rt.alloc(), 7)?;
+/// Of `KEY | KEY`: whether a copy of the first equals the first, and whether it equals the second.
+pub fn copied(alloc: Global, argument: &str) -> Result<String, RowFault> {
+    let (key, other) = halves(argument);
+    let key = key_of(alloc, key)?;
+    let other = key_of(alloc, other)?;
     let copy = key.clone()?;
-    let other = key_of(rt.alloc(), 8)?;
-    assert!(rt; copy.equals(&key));
-    assert!(rt; !copy.equals(&other));
-    Ok(())
-}
-
-/// The key of the one atom `v0 <= constant`.
-fn key_of(alloc: Global, constant: i64) -> Result<Key, Fail> {
-    let mut atoms = Vec::new(alloc);
-    atoms.push(atom_of(alloc, constant)?)?;
-    match Key::of(atoms) {
-        Ok(key) => Ok(key),
-        Err(_) => Err(Fail::from("one canonical atom is a key")),
-    }
-}
-
-/// The atom `v0 <= constant`.
-fn atom_of(alloc: Global, constant: i64) -> Result<KeyAtom, Fail> {
-    let mut terms = Vec::new(alloc);
-    terms.push(FormTerm { var: 0, coef: 1 })?;
-    match KeyAtom::new(Form::new(terms), Op::Le, constant) {
-        Some(atom) => Ok(atom),
-        None => Err(Fail::from("the parts are canonical")),
-    }
+    let own = copy.equals(&key);
+    let others = copy.equals(&other);
+    Ok(format!(in alloc; "{own} {others}")?)
 }

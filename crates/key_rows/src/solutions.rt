@@ -1,93 +1,59 @@
-//! Keys against the conditions that they are of, at every point of a box.
-use crate::fixtures::condition;
-use canoniser::{Back, Canonical, canonise};
+//! The call on what conditions and their keys have in common: `solutions`.
+use crate::keys::first;
+use crate::reading::condition_of;
+use canoniser::{Back, Canonical};
 use lin_model::{Condition, Key, Point};
-use slicer::slices;
+use row_table::RowFault;
 use std::alloc::{AllocError, Global};
-use std::process::Abort;
-use std::test::Fail;
 
-/// Over `A` from -2 to 3 and `B` from -3 to 2, at each point from -4 to 5 on both sides.
-#[test]
-fn slice_and_key_have_the_same_solutions(rt: HostRuntime) -> Result<(), Fail> {
-    for row in CONDITIONS.lines() {
-        expect_agreement(&rt, row)?;
-    }
-    Ok(())
+/// At how many points a condition and its key hold.
+#[derive(Drop)]
+struct Tally {
+    both: u32,
+    neither: u32,
+    one: u32,
 }
 
-/// Conditions that are one slice each.
-const CONDITIONS: &str = "2*A + 2*B <= 7;
-2*A + 2*B < -1;
-4*A - 6*B = 2;
-4*A - 6*B != 2;
-4*A - 6*B != 3;
--4*A + 6*B >= 3;
--4*A + 6*B > -3;
-3 > 5*B - A;
-B = A;A != 1;
-B - B + A <= 1;3*B >= -4;
-3*A + 3*B >= -4;B + A <= 2;2*B + 2*A != 2;
-A - B < 2;2*B < 2*A + 5;A + B != 0;";
-
-/// Expects that the key of the row's condition holds exactly where the condition does.
-fn expect_agreement(rt: &(impl Abort + AllocGlobal), row: &str) -> Result<(), Fail> {
-    let c = condition_of(rt.alloc(), row)?;
-    let count = disagreements(rt.alloc(), &c)?;
-    assert_eq!(rt; count, 0, "{row}");
-    Ok(())
-}
-
-/// The condition of the row's atoms, in which a semicolon stands for each line feed.
-fn condition_of(alloc: Global, row: &str) -> Result<Condition, Fail> {
-    let atoms = row.replace(alloc, ';', "\n")?;
-    declared(alloc, atoms.as_str())
-}
-
-fn declared(alloc: Global, atoms: &str) -> Result<Condition, Fail> {
-    let text = format!(in alloc; "var A -2 3\nvar B -3 2\n{atoms}")?;
-    condition(alloc, text.as_str())
-}
-
-/// At how many points they disagree.
-fn disagreements(alloc: Global, c: &Condition) -> Result<u32, Fail> {
-    let (key, back) = only_key(alloc, c)?;
-    let mut count = 0u32;
+/// Of a condition of two variables that is one slice: at how many of the 100 points with values from -4 to 5 both it and
+/// its key hold, at how many neither does, and at how many only one of them.
+pub fn solutions(alloc: Global, argument: &str) -> Result<String, RowFault> {
+    let condition = condition_of(alloc, argument)?;
+    let Canonical::Key { key, back } = first(alloc, &condition)? else {
+        return Err(RowFault::NoCall);
+    };
+    let mut tally = Tally {
+        both: 0,
+        neither: 0,
+        one: 0,
+    };
     for a in -4..6 {
         for b in -4..6 {
-            if !agree(alloc, c, &[a, b], &key, &back)? {
-                count = count.saturating_add(1);
-            }
+            count(alloc, &mut tally, &condition, &[a, b], &key, &back)?;
         }
     }
-    Ok(count)
+    let Tally { both, neither, one } = tally;
+    Ok(format!(in alloc; "both at {both}, neither at {neither}, one at {one}")?)
 }
 
-/// The key of the only slice, and the way back.
-fn only_key(alloc: Global, c: &Condition) -> Result<(Key, Back), Fail> {
-    let found = slices(alloc, c)?;
-    if found.len() != 1 {
-        return Err(Fail::from("not one slice"));
-    }
-    match canonise(alloc, c, &found[0])? {
-        Canonical::False(_) => Err(Fail::from("no key")),
-        Canonical::Key { key, back } => Ok((key, back)),
-    }
-}
-
-/// Whether the condition holds at these values exactly where its key holds at their point.
-fn agree(
+/// Counts one point.
+fn count(
     alloc: Global,
-    c: &Condition,
+    tally: &mut Tally,
+    condition: &Condition,
     values: &[i64],
     key: &Key,
     back: &Back,
-) -> Result<bool, Fail> {
+) -> Result<(), RowFault> {
     let point = point_of(numbered(alloc, values, back)?)?;
     if usize::from(key.width()) > point.values().len() {
-        return Err(Fail::from("a key that is wider than its slice"));
+        return Err(RowFault::NoCall);
     }
-    Ok(key.holds(&point) == c.holds(values))
+    match (condition.holds(values), key.holds(&point)) {
+        (true, true) => tally.both = tally.both.saturating_add(1),
+        (false, false) => tally.neither = tally.neither.saturating_add(1),
+        _ => tally.one = tally.one.saturating_add(1),
+    }
+    Ok(())
 }
 
 /// The values in the order of the key's numbers.
@@ -100,9 +66,9 @@ fn numbered(alloc: Global, values: &[i64], back: &Back) -> Result<Vec<i64>, Allo
     Ok(numbered)
 }
 
-fn point_of(values: Vec<i64>) -> Result<Point, Fail> {
+fn point_of(values: Vec<i64>) -> Result<Point, RowFault> {
     match Point::of(values) {
         Ok(point) => Ok(point),
-        Err(_) => Err(Fail::from("no point")),
+        Err(_) => Err(RowFault::NoCall),
     }
 }

@@ -1,6 +1,1 @@
 mod Checks
-mod PatchLemmas
-mod StepLemmas
-mod MomentLemmas
-mod MemDiskLemmas
-mod RememberLemmas

@@ -5,14 +5,3 @@ pub mod Crash
 pub mod TornFacts
 pub mod Runs
 pub mod RunFacts
-pub mod PastWrite
-pub mod Steps
-pub mod MemDisk
-pub mod MemDiskCalls
-pub mod MemDiskFacts
-pub mod MemSource
-pub mod MemSink
-pub mod StdEnds
-pub mod Untold
-pub mod NoDisk
-pub mod FileDisk

@@ -1,9 +1,6 @@
-//! A condition that grows by one comparison at a time, asked by three executors, each under names of its own.
-use crate::fixtures::{run, source_of};
-use outside::MemSink;
-use std::alloc::{AllocError, Global};
-use std::process::Abort;
-use std::test::Fail;
+//! A condition that grows by one comparison at a time, asked by several executors, each under names of its own.
+use outside::NoMemory;
+use std::alloc::Global;
 
 /// The variables, each over the widest bounds. An `@` stands for what an executor puts behind each name.
 const NAMES: &str = "i@ n@ len@ cap@ base@ off@ lim@ a@ b@";
@@ -35,68 +32,30 @@ i@ != n@
 n@ != 0
 ";
 
-/// No slice of the second and the third executor is solved: the first left an entry for each.
-#[test]
-fn executors_under_other_names_have_only_hits(rt: HostRuntime) -> Result<(), Fail> {
-    let alloc = rt.alloc();
-    let text = three_executors(alloc)?;
-    let mut source = source_of(alloc, text.as_str(), &[])?;
-    let mut sink = MemSink::new(alloc, Vec::new(alloc));
-    let (status, _) = run(alloc, "solve", &mut source, &mut sink)?;
-    assert_eq!(rt; status, 0);
-    expect_answers(&rt, str::from_utf8(sink.bytes())?)
-}
-
-fn expect_answers(rt: &(impl Abort + AllocGlobal), answers: &str) -> Result<(), Fail> {
-    assert_eq!(rt;
-        answers
-            .lines()
-            .filter(|line| line.starts_with("sat "))
-            .count(),
-        72
-    );
-    let (first, others) = split_behind_first(answers).ok_or("fewer than two executors")?;
-    assert_eq!(rt;
-        (first.contains("[hit"), others.contains("[new")),
-        (true, false)
-    );
-    assert_eq!(rt; first.lines().next(), Some(FIRST_ANSWER));
-    let last = first.lines().last().ok_or("no answer")?;
-    assert_eq!(rt;
-        last.split_once(" [").map(|parts| parts.0),
-        Some(LAST_MODEL)
-    );
-    Ok(())
-}
-
-/// One slice has the comparison, and each other variable stands alone: its bounds are implied by those of the first.
-const FIRST_ANSWER: &str =
-    "sat i=0 n=0 len=0 cap=0 base=0 off=0 lim=0 a=0 b=0 [new 0] [hit 0] [hit 0] [hit 0] [hit 0] [hit 0] [hit 0] [hit 0] [hit 0]";
-
-/// The least values, reckoned from the comparisons: `i` is 0, so `n`, `len` and `cap` are 1, and `b` is `a + 1`.
-const LAST_MODEL: &str = "sat i=0 n=1 len=1 cap=1 base=0 off=0 lim=16 a=1 b=2";
-
-/// The answers of the first executor, and those of the others.
-fn split_behind_first(answers: &str) -> Option<(&str, &str)> {
-    let (_, all) = answers.split_once("executor\n")?;
-    all.split_once("executor\n")
-}
-
-/// The session of three executors, of which each asks of the condition as it grows.
-fn three_executors(alloc: Global) -> Result<String, AllocError> {
+/// The session of executors with these words behind each name, of which each asks of the condition as it grows.
+pub fn session(alloc: Global, suffixes: &str) -> Result<String, NoMemory> {
     let queries = growing_queries(alloc)?;
-    let mut text = String::new(alloc);
-    text.push_str("green 1\n")?;
-    for suffix in ["", "2", "3"] {
-        text.push_str("executor\n")?;
-        text.push_str(queries.replace(alloc, '@', suffix)?.as_str())?;
+    let mut text = String::from_str(alloc, "green 1\n")?;
+    for suffix in suffixes.split('|') {
+        push_executor(alloc, &mut text, queries.as_str(), suffix)?;
     }
     text.push_str("end\n")?;
     Ok(text)
 }
 
+fn push_executor(
+    alloc: Global,
+    text: &mut String,
+    queries: &str,
+    suffix: &str,
+) -> Result<(), NoMemory> {
+    text.push_str("executor\n")?;
+    text.push_str(queries.replace(alloc, '@', suffix)?.as_str())?;
+    Ok(())
+}
+
 /// A query for each number of comparisons, from one on.
-fn growing_queries(alloc: Global) -> Result<String, AllocError> {
+fn growing_queries(alloc: Global) -> Result<String, NoMemory> {
     let variables = variable_lines(alloc)?;
     let mut comparisons = String::new(alloc);
     let mut queries = String::new(alloc);
@@ -110,7 +69,7 @@ fn growing_queries(alloc: Global) -> Result<String, AllocError> {
     Ok(queries)
 }
 
-fn variable_lines(alloc: Global) -> Result<String, AllocError> {
+fn variable_lines(alloc: Global) -> Result<String, NoMemory> {
     let mut lines = String::new(alloc);
     for name in NAMES.split(' ') {
         for piece in ["var ", name, " -2147483648 2147483647\n"] {

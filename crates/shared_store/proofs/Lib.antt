@@ -1,6 +1,13 @@
+mod AfterLemmas
 mod AskLemmas
 mod AskingLemmas
+mod EntriesLemmas
+mod FittingLemmas
+mod FlownLemmas
 mod FlyingLemmas
 mod LandLemmas
 mod OwnLemmas
+mod ReadyLemmas
 mod SolvingLemmas
+mod StartLemmas
+mod WritesLemmas

@@ -1,5 +1,5 @@
 -- What a flight of the one seat leaves.
-use Rattle.std.proofs.Common.{◌≡◌, ◌≢◌, ◌∙◌, ℕ, ◌≤◌, ◌==◌, true, List, [], ◌∷◌, ◌++◌, length, arith, refl, sym, ap}
+use Rattle.std.proofs.Common.{◌≡◌, ◌≢◌, ◌∙◌, ℕ, ◌≤◌, ◌==◌, Bool, List, [], ◌∷◌, ◌++◌, length, arith, refl, sym, ap}
 use Rattle.std.proofs.Common.{subst}
 use Rattle.std.specs.List.{All}
 use Rattle.std.proofs.lemmas.List.{append_assoc, length_push}
@@ -8,15 +8,18 @@ use Rattle.lin_model.specs.KeyAtom.{PlainKeyAtom}
 use Rattle.cert_check.specs.declared.entry.Entry.{Entry}
 use Rattle.cert_check.specs.declared.event.Event.{Event}
 use Rattle.cert_check.specs.declared.flight.Flight.{Flight}
+use Rattle.cert_check.specs.declared.wrote.Wrote.{Wrote}
 use Rattle.cert_check.specs.Machine.{CoreState, Turn, begun, kept, unkept, spent, failed, after, seat_of, without}
 use Rattle.cert_check.specs.Logs.{IsLegalLog}
 use Rattle.cert_check.specs.Replies.{HasFlown}
-use Rattle.cert_check.specs.Seats.{Gains, IsSound, entries_of, turns_of}
+use Rattle.cert_check.specs.Seats.{Gains, IsSound, entries_of, turns_of, writer_of, wrotes_of}
+use Rattle.journal.specs.Journals.{PlainJournal}
 use Rattle.store_core.specs.Cores.{PlainCore, IsCore, log_of}
 use Rattle.store_core.specs.Laws.{CoresTakeTurns}
 use Rattle.store_core.specs.Steps.{TakesTurn}
-use Rattle.shared_store.specs.Flights.{Flies, own_seat}
-use Rattle.shared_store.specs.Local.{IsOwn, seat_of_core}
+use Rattle.shared_store.specs.Flights.{Flies, Notes, own_seat}
+use Rattle.shared_store.specs.Local.{IsOwn, seat_of_both}
+use Rattle.shared_store.proofs.WritesLemmas.{off_stays, own_writes}
 
 -- a turn by which a flight of the one seat ends
 pub record IsOwnEnd (end : Turn) : Type 0 where
@@ -60,14 +63,16 @@ core_after_flight law key end old new is flies =
     (core_after law (begun own_seat key (length old.state.entries)) old flies.mid is flies.began) flies.ended
 
 -- the entries after what the seat has seen are those of the core
-pub entries_seen : (core : PlainCore) → IsCore core → entries_of (seat_of_core core) ≡ core.state.entries
-entries_seen core is = is.legal.leads
+pub entries_seen : {D : Type 0} (core : PlainCore) (journal : PlainJournal D) → IsCore core
+    → entries_of (seat_of_both core journal) ≡ core.state.entries
+entries_seen core journal is = is.legal.leads
 
 -- such a seat is sound
-pub own_is_sound : (core : PlainCore) → IsOwn core → IsSound (seat_of_core core)
-own_is_sound core own = record {
-  legal = subst (IsLegalLog core.opening (log_of core)) (sym (entries_seen core own.is_core)) own.is_core.legal;
-  within = omega (arith, ap length (entries_seen core own.is_core));
+pub own_is_sound : {D : Type 0} (core : PlainCore) (journal : PlainJournal D) → IsOwn core
+    → IsSound (seat_of_both core journal)
+own_is_sound core journal own = record {
+  legal = subst (IsLegalLog core.opening (log_of core)) (sym (entries_seen core journal own.is_core)) own.is_core.legal;
+  within = omega (arith, ap length (entries_seen core journal own.is_core));
   idle = subst (λ (s : CoreState). All (λ f. f.seat ≢ own_seat) s.flights) (sym own.is_core.leads)
       (subst (All (λ f. f.seat ≢ own_seat)) (sym own.landed) (All-nil (λ (f : Flight). f.seat ≢ own_seat)));
 }
@@ -121,15 +126,25 @@ module _ (key : List PlainKeyAtom) (end : Turn) (old new : PlainCore) (is_end : 
         (All-push (λ turn. seat_of turn ≡ own_seat) (log_of old) start_turn own.own refl) is_end.seat);
   }
 
-  -- the seat gained these two turns, and no write
-  pub gains : Gains (begun own_seat key (length old.state.entries) ∷ end ∷ []) [] (seat_of_core old) (seat_of_core new)
-  gains = record {
+  -- the terms of the seat stay
+  terms_stay : {D : Type 0} (writes : List Wrote) (was is : PlainJournal D) → Notes writes was is
+      → (seat_of_both new is).terms ≡ (seat_of_both old was).terms
+  terms_stay writes was is notes =
+      ap (λ (es : List Entry). record { number = own_seat; opening = es; off = is.off }) opening_stays
+      ∙ ap (λ (b : Bool). record { number = own_seat; opening = old.opening; off = b }) (off_stays writes was is notes)
+
+  -- the seat gained these two turns, and the writes that the journal noted
+  pub gains : {D : Type 0} (writes : List Wrote) (was is : PlainJournal D) → All (λ w. writer_of w ≡ own_seat) writes
+      → Notes writes was is
+      → Gains (begun own_seat key (length old.state.entries) ∷ end ∷ []) writes (seat_of_both old was)
+      (seat_of_both new is)
+  gains writes was is of_seat notes = record {
     grows = record {
-      terms = ap (λ (es : List Entry). record { number = own_seat; opening = es; off = true }) opening_stays;
+      terms = terms_stay writes was is notes;
       turns = start_turn ∷ end ∷ [];
       log = longer ∙ append_assoc (log_of old) (start_turn ∷ []) (end ∷ []);
-      writes = [];
-      wrotes = refl;
+      writes = writes;
+      wrotes = notes.wrotes;
       no_less = no_less;
     };
     own_turns = ap (turns_of own_seat) longer
@@ -138,5 +153,7 @@ module _ (key : List PlainKeyAtom) (end : Turn) (old new : PlainCore) (is_end : 
         ∙ (ap (λ (ts : List Turn). ts ++ end ∷ [])
         (filter-append (λ t. seat_of t == own_seat) (log_of old) (start_turn ∷ []))
         ∙ append_assoc (turns_of own_seat (log_of old)) (start_turn ∷ []) (end ∷ []))));
-    own_writes = refl;
+    own_writes = ap (wrotes_of own_seat) notes.wrotes
+        ∙ (filter-append (λ w. writer_of w == own_seat) was.wrotes writes
+        ∙ ap (λ (ws : List Wrote). wrotes_of own_seat was.wrotes ++ ws) (own_writes writes of_seat));
   }

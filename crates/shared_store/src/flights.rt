@@ -4,16 +4,22 @@ ghost use Rattle.refutation.specs.Boxed.{IsBoxed};
 ghost use Rattle.cert_check.specs.Decides.{IsChecked, IsFirstDeciding, NoneDecides};
 ghost use Rattle.cert_check.specs.Machine.{MayCome, begun, failed, kept};
 ghost use Rattle.store_core.specs.Steps.{IsToKeep, TakesTurn, end_in};
-ghost use Rattle.shared_store.specs.Flights.{FliesInVain, LandsWith, LandsWithEntry, MayLand, MayLandWith};
-ghost use Rattle.shared_store.specs.Flights.{RepliesByFlight, RepliesByHit, own_seat};
+ghost use Rattle.cert_check.specs.declared.saved.Saved.{Saved as AnySaved};
+ghost use Rattle.cert_check.specs.Machine.{HasFlight};
+ghost use Rattle.entry_codec.specs.Frames.{IsSmallEnough};
+ghost use Rattle.shared_store.specs.Flights.{EndsInVain, LandsWithEntry, LandsWithTree, MayLandWith, NotesInVain};
+ghost use Rattle.shared_store.specs.Flights.{RepliesByFlight, RepliesByHit, SavesEntry, own_seat};
 ghost use Rattle.shared_store.specs.Solving.{IsBlank};
 
+use crate::books::Books;
 use crate::solving::{Evidence, find_evidence};
 use atom_implies::Steps;
 use box_solver::TreeRegion;
 use cert_check::{Entry, Reply, Saved, Shared};
+use entry_codec::entries_fit_frames;
 use lin_model::Key;
-use outside::NoMemory;
+use outside::{Disk, NoMemory};
+use refutation::Tree;
 use std::alloc::Global;
 use std::marker::Brand;
 use std::sync::ledger::{Blank, Ledger};
@@ -75,30 +81,33 @@ fn first_by<L: Ledger>(core: &Core, key: &Key, blank: Blank) -> Option<u32>
     core.version().get().first(key, &mut steps)
 }
 
-/// Solves the key in a flight, for a store without flights, of whose entries none decides the key. After want of memory
-/// no flight began, or it has failed. The region, which is blank, is blank again.
-pub fn fly(
+/// Solves the key in a flight, for a store without flights, of whose entries none decides the key. An entry is saved
+/// before the flight ends. After want of memory no flight began, or it has failed, and the journal has noted one write at
+/// most. The region, which is blank, is blank again.
+pub fn fly<D: Disk>(
     alloc: Global,
-    core: &mut Core,
+    books: &mut Books<D>,
     key: &Key,
     budget: u32,
     region: &mut TreeRegion,
 ) -> Result<Reply, NoMemory>
-    requires landed { core.old.state.flights ≡ [] }
-    requires undecided { NoneDecides core.old.state.entries key.now }
+    requires landed { books.old.core.state.flights ≡ [] }
+    requires undecided { NoneDecides books.old.core.state.entries key.now }
     requires boxed { IsBoxed key.now }
     requires some { 1 ≤ budget }
     requires few { budget ≤ 100000 }
     requires blank { IsBlank budget region.old }
-    ensures reply { IfOk result (RepliesByFlight budget key.now core.old core.new) }
-    ensures in_vain { OnErr result (FliesInVain key.now core.old core.new) }
+    ensures reply { IfOk result (RepliesByFlight budget key.now books.old books.new) }
+    ensures in_vain { OnErr result (EndsInVain key.now books.old books.new) }
     ensures blank { IsBlank budget region.new }
 {
-    begin(alloc, core, key)?;
+    entries_fit_frames();
+    begin(alloc, &mut books.core, key)?;
     match find_evidence(alloc, key, budget, region) {
-        Ok(evidence) => land(alloc, core, evidence),
+        Ok(Evidence::Decided(entry)) => land(alloc, books, entry),
+        Ok(Evidence::Open(tree)) => Ok(land_open(alloc, &mut books.core, tree)),
         Err(NoMemory) => {
-            finish(alloc, core, How::Failed);
+            finish(alloc, &mut books.core, How::Failed);
             Err(NoMemory)
         }
     }
@@ -120,43 +129,62 @@ fn begin(alloc: Global, core: &mut Core, key: &Key) -> Result<(), NoMemory>
     }
 }
 
-/// Ends the flight with what was found.
-fn land(alloc: Global, core: &mut Core, evidence: Evidence) -> Result<Reply, NoMemory>
-    requires { MayLand core.old.state evidence }
-    ensures lands { IfOk result (LandsWith evidence core.old core.new) }
-    ensures failed { OnErr result (TakesTurn (failed own_seat) core.old core.new) }
+/// Ends the flight with the whole budget spent.
+fn land_open(alloc: Global, core: &mut Core, tree: Tree) -> Reply
+    requires { HasFlight core.old.state own_seat }
+    ensures { LandsWithTree tree core.old core.new result }
 {
-    match evidence {
-        Evidence::Decided(entry) => land_entry(alloc, core, entry),
-        Evidence::Open(tree) => {
-            let seen = core.len();
-            finish(alloc, core, How::Spent);
-            Ok(Reply::Spent { tree, seen })
+    let seen = core.len();
+    finish(alloc, core, How::Spent);
+    Reply::Spent { tree, seen }
+}
+
+/// Appends the entry to the journal, and ends the flight with it. Where memory runs out the flight has failed, and the
+/// journal may have noted what became of the entry.
+fn land<D: Disk>(
+    alloc: Global,
+    books: &mut Books<D>,
+    entry: Shared<Entry>,
+) -> Result<Reply, NoMemory>
+    requires may { MayLandWith books.old.core.state entry }
+    requires small { IsSmallEnough entry }
+    ensures lands { IfOk result (λ reply. (saved : AnySaved) × SavesEntry entry saved books.old.journal books.new.journal
+        × LandsWithEntry entry saved books.old.core books.new.core reply) }
+    ensures failed { OnErr result (TakesTurn (failed own_seat) books.old.core books.new.core
+        × NotesInVain books.old.journal books.new.journal) }
+{
+    match books.journal.append(OWN_SEAT, &entry) {
+        Ok(saved) => land_entry(alloc, &mut books.core, entry, saved),
+        Err(NoMemory) => {
+            finish(alloc, &mut books.core, How::Failed);
+            Err(NoMemory)
         }
     }
 }
 
-/// Ends the flight with an entry, which is kept where there is room.
-fn land_entry(alloc: Global, core: &mut Core, entry: Shared<Entry>) -> Result<Reply, NoMemory>
+/// Ends the flight with an entry that was saved so; it is kept where there is room. Where memory runs out the flight has
+/// failed.
+fn land_entry(
+    alloc: Global,
+    core: &mut Core,
+    entry: Shared<Entry>,
+    saved: Saved,
+) -> Result<Reply, NoMemory>
     requires { MayLandWith core.old.state entry }
-    ensures lands { IfOk result (LandsWithEntry entry core.old core.new) }
+    ensures lands { IfOk result (LandsWithEntry entry saved core.old core.new) }
     ensures failed { OnErr result (TakesTurn (failed own_seat) core.old core.new) }
 {
     if core.is_full() {
         let seen = core.len();
         finish(alloc, core, How::Unkept);
-        return Ok(Reply::Unkept {
-            entry,
-            seen,
-            saved: Saved::Off,
-        });
+        return Ok(Reply::Unkept { entry, seen, saved });
     }
     match keep(alloc, core, &entry) {
         Ok(place) => Ok(Reply::Solved {
             entry,
             place,
             seen: place + 1,
-            saved: Saved::Off,
+            saved,
         }),
         Err(NoMemory) => {
             finish(alloc, core, How::Failed);

@@ -1,6 +1,7 @@
 //! Stores that answer keys: by an entry that decides the key, and else by solving it.
 #![tactic(auto)]
 
+mod books;
 mod flights;
 mod laws;
 mod local;

@@ -34,4 +34,5 @@ loop-executor-preserved g c =
           c.loop-executor-test.true c.executor-item.is c.loop-executor.invariant.shape
           (answers-long budget c.executor-item.result script mid new here));
       budget = c.answer_script.ensures.budget ∙ c.loop-executor.invariant.budget;
+      origin = c.answer_script.ensures.origin ∙ c.loop-executor.invariant.origin;
     }

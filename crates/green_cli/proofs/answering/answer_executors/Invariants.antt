@@ -11,4 +11,5 @@ invariant-loop-executor g l = record {
       (in_order l.answers) (g.O.SliceOracle.seat l.fn.oracle) (g.O.SliceOracle.seat l.oracle);
   shape : HaveAnswers (take l.executor-index l.executors) l.answers;
   budget : g.O.SliceOracle.budget l.oracle ≡ g.O.SliceOracle.budget l.fn.oracle;
+  origin : g.O.SliceOracle.origin l.oracle ≡ g.O.SliceOracle.origin l.fn.oracle;
 }

@@ -21,4 +21,5 @@ loop-query-preserved g c =
           (answers_more budget c.args.queries.now c.loop-query.answers c.loop-query.query-index c.query-item.result
           c.in_ok-answer.field-0 old mid new c.loop-query-test.true c.query-item.is c.loop-query.invariant.run here);
       budget = c.answer.ensures.budget ∙ c.loop-query.invariant.budget;
+      origin = c.answer.ensures.origin ∙ c.loop-query.invariant.origin;
     }

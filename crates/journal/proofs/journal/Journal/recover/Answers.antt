@@ -1,4 +1,5 @@
-use Rattle.std.proofs.Common.{◌≡◌, length, ap, arith}
+use Rattle.std.proofs.Common.{◌≡◌, length, ap, sym, append-nil, arith}
+use Rattle.journal.specs.Journals.{saved_in}
 use Rattle.journal.proofs.OpenedLemmas.{keeps_opened, whole_opened, numbers_opened}
 use Rattle.journal.proofs.journal.Journal.recover.Goals as goal
 
@@ -11,6 +12,12 @@ invariant_of-journal g c =
       keeps_opened g.D.Disk.state g.met.D.Disk.consistent _ _ _ o.opens o.in_order,
       numbers_opened g.D.Disk.state g.met.D.Disk.consistent _ _ _ o.opens o.in_order c.len-len.result long,
     )
+
+pub returns-clause-list : goal.returns-clause-list
+unfolding saved_in
+returns-clause-list g c =
+    let o = c.in-Ok.ensures {u = tt} in
+    rw (o.copied, c.new.ensures.items) (sym (append-nil _))
 
 pub returns-clause-kept : goal.returns-clause-kept
 returns-clause-kept g c =

@@ -1,0 +1,6 @@
+mod Checks
+mod PatchLemmas
+mod StepLemmas
+mod MomentLemmas
+mod MemDiskLemmas
+mod RememberLemmas

@@ -1,0 +1,10 @@
+pub mod PastWrite
+pub mod Steps
+pub mod MemDisk
+pub mod MemDiskCalls
+pub mod MemDiskFacts
+pub mod MemSource
+pub mod MemSink
+pub mod StdEnds
+pub mod Untold
+pub mod FileDisk
