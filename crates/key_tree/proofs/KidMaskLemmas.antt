@@ -7,7 +7,7 @@ use Rattle.std.proofs.lemmas.List.{length-set, get_or-set_same, get_or-set_other
 use Rattle.std.proofs.lemmas.List.Edits.{length-insert, get_or-insert_at, get_or-insert_below, get_or-insert_above}
 use Rattle.std.proofs.lemmas.Nat.Bits.{bit_at-zero}
 use Rattle.key_tree.specs.declared.kid.Kid.{Kid}
-use Rattle.key_tree.specs.Places.{AreKidsWidened}
+use Rattle.key_tree.specs.Places.{AreApart, AreKidsWidened}
 use Rattle.lin_model.specs.KeyAtom.{PlainKeyAtom}
 use Rattle.key_tree.specs.Prints.{gives_of, IsWithin}
 use Rattle.key_tree.specs.Tree.{PlainTree, AreMasksOf, place_at, branch_to}
@@ -129,5 +129,31 @@ widened_more kids place behind olds news i n so_far lt =
             (subst (λ (b : ℕ). IsWithin behind b) (sym (get_or-set_same news i mask m lt)) (within_right (get_or news i n) behind))
         | inr earlier ↦ within_more behind (get_or news k m) (get_or (set news i mask) k m)
             (so_far.have k d m (omega arith) same) (grown k m)
+      ];
+    }
+
+-- the one kid that leads there
+pub widened_at : (kids : List Kid) (place behind : ℕ) (olds : List ℕ) (at n : ℕ) → AreApart kids → at < length olds
+    → at < length kids → ((d : Kid) → (get_or kids at d).place ≡ place)
+    → AreKidsWidened kids place behind olds (set olds at (bit_or (get_or olds at n) behind)) (length kids)
+widened_at kids place behind olds at n apart lt within leads =
+    let mask : ℕ = bit_or (get_or olds at n) behind in
+    let here : IsWithin behind mask = within_right (get_or olds at n) behind in
+    record {
+      counts = length-set olds at mask;
+      grow = λ k m. elim (cases_eq k at) [
+        | inl same ↦ subst (λ (j : ℕ). IsWithin (get_or olds j m) (get_or (set olds at mask) j m)) (sym same)
+            (subst (λ (b : ℕ). IsWithin (get_or olds at m) b) (sym (get_or-set_same olds at mask m lt))
+            (subst (λ (b : ℕ). IsWithin b mask) (get_or_default olds at n m lt) (within_left (get_or olds at n) behind)))
+        | inr other ↦ subst (λ (b : ℕ). IsWithin (get_or olds k m) b) (sym (get_or-set_other olds at k mask m other))
+            (within_itself (get_or olds k m))
+      ];
+      have = λ k d m below same. elim (cases_eq k at) [
+        | inl is ↦ subst (λ (j : ℕ). IsWithin behind (get_or (set olds at mask) j m)) (sym is)
+            (subst (λ (b : ℕ). IsWithin behind b) (sym (get_or-set_same olds at mask m lt)) here)
+        | inr other ↦ elim (cases_lt k at) [
+          | inl before ↦ absurd (apart k at d d before within (same ∙ sym (leads d)))
+          | inr upto ↦ absurd (apart at k d d (omega arith) below (leads d ∙ sym same))
+        ]
       ];
     }

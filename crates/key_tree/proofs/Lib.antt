@@ -6,6 +6,7 @@ mod RunLemmas
 mod WayLemmas
 mod PlaceLemmas
 mod KidMaskLemmas
+mod ApartLemmas
 mod PlaceMaskLemmas
 mod PrefixLemmas
 mod WalkLemmas

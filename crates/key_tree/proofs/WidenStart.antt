@@ -8,10 +8,11 @@ use Rattle.std.proofs.lemmas.Nat.Bits.{bit_at-zero}
 use Rattle.lin_model.specs.KeyAtom.{PlainKeyAtom}
 use Rattle.key_tree.specs.declared.branch.Branch.{Branch}
 use Rattle.key_tree.specs.declared.kid.Kid.{Kid}
-use Rattle.key_tree.specs.Places.{PlainPlace, no_place}
+use Rattle.key_tree.specs.Places.{AreApart, PlainPlace, no_place}
 use Rattle.key_tree.specs.Prints.{gives_of, IsWithin}
 use Rattle.key_tree.specs.Tree.{PlainTree, IsTree, AreMasksOf, place_at, branch_to, no_branch}
 use Rattle.key_tree.specs.Growth.{bare, IsBehindMasked, IsAtomMasked, AreKidsMasked, LeadsFrom, MayWiden, chain_kid, branches_of_chain}
+use Rattle.key_tree.proofs.ApartLemmas.{apart_none, apart_one, apart_put, kids_apart}
 use Rattle.key_tree.proofs.ChainLemmas.{branch_first, branch_atom, branch_from, place_links, place_last}
 use Rattle.key_tree.proofs.GrownLemmas.{grown_branches, grown_places, branch_stays, branch_comes, length_grown, length_grown_branches, place_stays, place_changes, place_comes}
 use Rattle.key_tree.specs.MaskFacts.{within_itself}
@@ -264,6 +265,39 @@ module _ (old : PlainTree) (front at : ℕ) (first : PlainKeyAtom) (atoms : List
         (leads_new (p - count) (omega (arith, length_all)))
   ]
 
+  -- kids of an old place are apart, also where one was put among the others
+  apart_old : (p : ℕ) → p < count → AreApart (get_or places p no_place).kids
+  apart_old p lt = elim (cases_eq p front) [
+    | inl same ↦ subst (λ (q : ℕ). AreApart (get_or places q no_place).kids) (sym same)
+        (subst (λ (q : PlainPlace). AreApart q.kids) (sym (place_changes old front at first atoms number within))
+        (apart_put (place_at old front).kids at kid fits
+        (kids_apart old front (place_at old front).kids (keeps.kids front within))
+        (λ k d those e. absurd (omega (arith, e, ((keeps.kids front within).kids_are k d those).tells.within)))))
+    | inr other ↦ subst (λ (q : PlainPlace). AreApart q.kids)
+        (sym (place_stays old front at first atoms number within p lt other))
+        (kids_apart old p (place_at old p).kids (keeps.kids p lt))
+  ]
+
+  -- a new place has one kid at most
+  apart_new : (j : ℕ) → j < length atoms → AreApart (get_or places (count + j) no_place).kids
+  apart_new j lt = elim (cases_lt (j + 1) (length atoms)) [
+    | inl more ↦ subst (λ (q : PlainPlace). AreApart q.kids)
+        (sym (place_comes old front at first atoms number within j ∙ place_links count atoms number j no_place first more))
+        (apart_one (chain_kid (count + (j + 1)) (get_or atoms (j + 1) first) number))
+    | inr end ↦ subst (λ (q : PlainPlace). AreApart q.kids)
+        (sym (place_comes old front at first atoms number within j ∙ place_last count atoms number j no_place (omega arith)))
+        apart_none
+  ]
+
+  -- so all are
+  apart_all : (p : ℕ) → p < length places → AreApart (get_or places p no_place).kids
+  apart_all p lt = elim (cases_lt p count) [
+    | inl old_p ↦ apart_old p old_p
+    | inr new_p ↦
+        let e : count + (p - count) ≡ p = omega arith in
+        subst (λ (q : ℕ). AreApart (get_or places q no_place).kids) e (apart_new (p - count) (omega (arith, length_all)))
+  ]
+
   -- so masks may be widened
   pub may_widen : MayWiden branches places last
   may_widen = record {
@@ -276,4 +310,5 @@ module _ (old : PlainTree) (front at : ℕ) (first : PlainKeyAtom) (atoms : List
     behind = behind_all;
     kids = kids_all;
     leads = λ p k d lt those. leads_all p lt k d those;
+    apart = apart_all;
   }

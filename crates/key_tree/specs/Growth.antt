@@ -7,7 +7,7 @@ use Rattle.key_tree.specs.declared.branch.Branch.{Branch}
 use Rattle.key_tree.specs.declared.held.Held.{Held}
 use Rattle.key_tree.specs.declared.kid.Kid.{Kid}
 use Rattle.key_tree.specs.declared.front.Front.{Front}
-use Rattle.key_tree.specs.Places.{PlainPlace, no_place}
+use Rattle.key_tree.specs.Places.{PlainPlace, no_place, AreApart}
 use Rattle.key_tree.specs.Prints.{hash_of, gives_of, IsWithin}
 use Rattle.key_tree.specs.Tree.{PlainTree, AreMasksOf, way_to, place_at, branch_to}
 use Rattle.key_tree.specs.Walks.{kid_atom}
@@ -100,6 +100,7 @@ pub record MayWiden (branches : List Branch) (places : List PlainPlace) (last : 
   pub kids : (p : ℕ) → p < length places → AreKidsMasked (bare branches places) p
   pub leads : (p k : ℕ) (d : Kid) → p < length places → k < length (slice_index_or places p no_place).kids
       → LeadsFrom branches p (slice_index_or (slice_index_or places p no_place).kids k d).place
+  pub apart : (p : ℕ) → p < length places → AreApart (slice_index_or places p no_place).kids
 
 -- all masks are right
 pub record AreMasked (branches : List Branch) (places : List PlainPlace) : Type 0 where

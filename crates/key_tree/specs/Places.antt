@@ -37,6 +37,11 @@ abbrev pub with_number : ℕ → PlainPlace → PlainPlace
 with_number number place =
     record { kids = place.kids; masks = place.masks; number = first_number place.number number; below = place.below }
 
+-- no two of the kids lead to one place
+abbrev pub AreApart : List Kid → Type 0
+AreApart kids = (j k : ℕ) (c d : Kid) → j < k → k < length kids
+    → (slice_index_or kids j c).place ≢ (slice_index_or kids k d).place
+
 -- Among the first so many kids, the masks of those that lead to this place got these bits. No mask lost a bit.
 pub record AreKidsWidened (kids : List Kid) (place behind : ℕ) (olds news : List ℕ) (count : ℕ) : Type 0 where
   pub counts : length news ≡ length olds

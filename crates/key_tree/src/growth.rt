@@ -14,7 +14,7 @@ ghost use Rattle.std.specs.Prelude.{
   slice_index_or,
 };
 ghost use Rattle.std.specs.Vec.{vec_capacity};
-ghost use Rattle.key_tree.specs.Places.{no_place, with_kid, with_number, AreWidened};
+ghost use Rattle.key_tree.specs.Places.{no_place, with_kid, with_number, AreApart, AreWidened};
 ghost use Rattle.key_tree.specs.Growth.{MayWiden, AreSameButMasks, AreMasked};
 
 use crate::branch::Branch;
@@ -24,6 +24,7 @@ use crate::held::Held;
 use crate::kid::Kid;
 use crate::mask::gives_of;
 use crate::place::Place;
+use crate::position::position_of;
 use outside::NoMemory;
 
 /// Makes a chain part of a tree. All that has to grow grows before anything else changes.
@@ -125,27 +126,33 @@ pub(crate) fn widen_to(branches: &[Branch], root: &mut Place, others: &mut Vec<P
         let behind = mask;
         mask |= gives_of(&branch.atom);
         place = branch.from;
-        widen_place(root, others, place, kid, behind, mask);
+        widen_place(branches, root, others, branch, kid, behind, mask);
     }
 }
 
-/// Adds bits to the mask of a place, and what is behind a later place to the mask of the kid that leads there.
+/// Adds bits to the mask of the place from which a branch comes, and what is behind the kid that it leads to to the mask
+/// beside that.
 fn widen_place(
+    branches: &[Branch],
     root: &mut Place,
     others: &mut Vec<Place>,
-    place: u32,
+    branch: &Branch,
     kid: u32,
     behind: u64,
     mask: u64,
 )
-    requires within { place < length (root.old ∷ others.old.items) }
-    requires masks { length (slice_index_or (root.old ∷ others.old.items) place no_place).masks
-        ≡ length (slice_index_or (root.old ∷ others.old.items) place no_place).kids }
-    ensures { AreWidened place kid behind mask (root.old ∷ others.old.items) (root.new ∷ others.new.items) }
+    requires within { branch.now.from < length (root.old ∷ others.old.items) }
+    requires masks { length (slice_index_or (root.old ∷ others.old.items) branch.now.from no_place).masks
+        ≡ length (slice_index_or (root.old ∷ others.old.items) branch.now.from no_place).kids }
+    requires apart { AreApart (slice_index_or (root.old ∷ others.old.items) branch.now.from no_place).kids }
+    ensures { AreWidened branch.now.from kid behind mask (root.old ∷ others.old.items) (root.new ∷ others.new.items) }
 {
-    if place == 0 {
-        root.widen(kid, behind, mask);
+    if branch.from == 0 {
+        let at = position_of(branches, root.kids(), &branch.atom);
+        root.widen(at, kid, behind, mask);
         return;
     }
-    others[place as usize - 1].widen(kid, behind, mask);
+    let place = &mut others[branch.from as usize - 1];
+    let at = position_of(branches, place.kids(), &branch.atom);
+    place.widen(at, kid, behind, mask);
 }

@@ -12,6 +12,7 @@ mod laws;
 mod mask;
 mod numbers;
 mod place;
+mod position;
 mod runs;
 mod tree;
 

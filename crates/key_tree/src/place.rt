@@ -1,7 +1,7 @@
 //! Places.
 ghost use Rattle.std.specs.Prelude.{◌≡◌, None, [], ◌∷◌, ◌++◌, ◌<◌, ◌≤◌, length, take, drop, OnOk, OnErr};
 ghost use Rattle.std.specs.Vec.{vec_capacity};
-ghost use Rattle.key_tree.specs.Places.{PlainPlace, with_kid, with_number, IsWidened, AreKidsWidened};
+ghost use Rattle.key_tree.specs.Places.{PlainPlace, with_kid, with_number, IsWidened, AreApart, AreKidsWidened};
 
 use crate::kid::Kid;
 use outside::NoMemory;
@@ -84,12 +84,14 @@ impl Place {
         Ok(())
     }
 
-    /// Adds bits to the mask, and what is behind a place to the mask of the kid that leads there.
-    pub(crate) fn widen(&mut self, kid: u32, behind: u64, mask: u64)
-        requires { length self.old.masks ≡ length self.old.kids }
+    /// Adds bits to the mask, and what is behind a place to the mask of the kid that leads there, which mostly is the one
+    /// at this position.
+    pub(crate) fn widen(&mut self, at: usize, kid: u32, behind: u64, mask: u64)
+        requires masks { length self.old.masks ≡ length self.old.kids }
+        requires apart { AreApart self.old.kids }
         ensures { IsWidened kid behind mask self.old self.new }
     {
-        widen_kid(&self.kids, &mut self.masks, kid, behind);
+        widen_kid(&self.kids, &mut self.masks, at, kid, behind);
         self.below |= mask;
     }
 
@@ -103,8 +105,21 @@ impl Place {
     }
 }
 
+/// Adds bits to the mask beside the kid that leads to this place. Where it isn't the one at this position, all are looked at.
+fn widen_kid(kids: &[Kid], masks: &mut [u64], at: usize, place: u32, behind: u64)
+    requires masks { length masks.old ≡ length kids.now }
+    requires apart { AreApart kids.now }
+    ensures { AreKidsWidened kids.now place behind masks.old masks.new (length kids.now) }
+{
+    if at < kids.len() && kids[at].place == place {
+        masks[at] |= behind;
+        return;
+    }
+    widen_each(kids, masks, place, behind);
+}
+
 /// Adds bits to the mask beside each kid that leads to this place.
-fn widen_kid(kids: &[Kid], masks: &mut [u64], place: u32, behind: u64)
+fn widen_each(kids: &[Kid], masks: &mut [u64], place: u32, behind: u64)
     requires { length masks.old ≡ length kids.now }
     ensures { AreKidsWidened kids.now place behind masks.old masks.new (length kids.now) }
 {

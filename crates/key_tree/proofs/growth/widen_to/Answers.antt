@@ -1,6 +1,7 @@
-use Rattle.std.proofs.Common.{◌<◌, ◌∷◌, List, arith, ap, ◌∙◌, ℕ}
+use Rattle.std.proofs.Common.{◌<◌, ◌∷◌, List, arith, ap, ◌∙◌, ℕ, subst, sym}
 use Rattle.std.specs.Int.RustNames.{bit_or}
-use Rattle.key_tree.specs.Places.{PlainPlace}
+use Rattle.key_tree.specs.declared.kid.Kid.{Kid}
+use Rattle.key_tree.specs.Places.{AreApart, PlainPlace}
 use Rattle.key_tree.proofs.WidenLemmas.{widening_starts, widening_more, widening_ends, branch_older, branch_gives}
 use Rattle.key_tree.proofs.growth.widen_to.Goals as goal
 
@@ -22,6 +23,15 @@ widen_place-requires-clause-masks c =
     (c.loop-place.invariant c.requires).counts c.index-branches-place.result.from
     (branch_older _ _ _ _ _ c.loop-place.place _ c.index-branches-place.result c.requires
     (c.loop-place.invariant c.requires) (omega arith) c.index-branches-place.is).2
+
+pub widen_place-requires-clause-apart : goal.widen_place-requires-clause-apart
+widen_place-requires-clause-apart c =
+    let w = c.loop-place.invariant c.requires in
+    let up = c.index-branches-place.result.from in
+    let older = branch_older _ _ _ _ _ c.loop-place.place _ c.index-branches-place.result c.requires w (omega arith)
+    c.index-branches-place.is in
+    subst (λ (kids : List Kid). AreApart kids) (sym (w.same.kids up))
+    (c.requires.apart up (omega (arith, w.same.counts, older.2)))
 
 pub loop-place-smaller : goal.loop-place-smaller
 loop-place-smaller c =

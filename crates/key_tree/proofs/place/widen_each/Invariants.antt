@@ -1,5 +1,5 @@
 use Rattle.key_tree.specs.Places.{AreKidsWidened}
-use Rattle.key_tree.proofs.place.widen_kid.Given as goal
+use Rattle.key_tree.proofs.place.widen_each.Given as goal
 
 -- the masks of the kids so far are wider
 abbrev pub invariant-loop-k : goal.invariant-loop-k
