@@ -15,6 +15,7 @@ use Rattle.refutation.specs.SearchTree.{IsUndecided, IsOpenTree}
 use Rattle.box_solver.specs.Answer.{IsFirstCorner, IsModelTree, IsRefutingTree, IsSpentTree}
 use Rattle.box_solver.specs.Progress.{HasRead}
 use Rattle.box_solver.proofs.CornerLemmas.{corner-length}
+use Rattle.box_solver.proofs.ReadLemmas.{OnlyLeftAfterLeft-append}
 use Rattle.box_solver.proofs.StepLemmas.{read-open, read-refutes}
 
 pub model-tree : (key : List PlainKeyAtom) (splits budget : ℕ) (nodes : List Node) (terms : List LeafTerm)
@@ -52,5 +53,6 @@ spent-tree key splits budget nodes terms boxes box rest h first spent undecided 
     (read-open key splits nodes terms box rest before undecided)) in
     record {
       open_tree = open_tree;
+      left_alone = OnlyLeftAfterLeft-append nodes (length boxes) h.no_left;
       below_room = law key budget (nodes ++ replicate (length boxes) Left) (terms ++ []) is_key boxed open_tree;
     }

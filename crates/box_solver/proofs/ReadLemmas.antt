@@ -18,6 +18,7 @@ use Rattle.refutation.specs.Leaf.{combo_closes, fixed_closes}
 use Rattle.refutation.specs.Reading.{Treated, treated, is_split, names_ne, Met, TreeReading, behind, read_over}
 use Rattle.refutation.specs.ReadingFacts.{read-some, first_is_read}
 use Rattle.refutation.specs.SearchTree.{is_left, is_inner, inner_count, NoInnerAfterLeft, first_left, KeepsOrder}
+use Rattle.box_solver.specs.Answer.{OnlyLeftAfterLeft}
 
 -- ---- one node, with more terms behind
 
@@ -180,3 +181,15 @@ NoInnerAfterLeft-append (node ∷ nodes) n h =
     let none = or_parts (is_left node) (list_any is_left nodes) h in
     AllPairs-cons (λ m later. is_left m ≡ true → is_inner later ≡ false) node (nodes ++ replicate n Left)
     (λ k d lt left. absurd (both_ways (is_left node) none.0 left)) (NoInnerAfterLeft-append nodes n none.1)
+
+pub OnlyLeftAfterLeft-append : (nodes : List Node) (n : ℕ) → list_any is_left nodes ≡ false
+    → OnlyLeftAfterLeft (nodes ++ replicate n Left)
+OnlyLeftAfterLeft-append [] zero h = λ i j d less lt. absurd (omega (arith, lt))
+OnlyLeftAfterLeft-append [] (suc n) h =
+    AllPairs-cons (λ node later. is_left node ≡ true → is_left later ≡ true) Left (replicate n Left)
+    (λ k d lt _. ap is_left (get_or-replicate n k Left d (omega (arith, lt, length-replicate n Left))))
+    (OnlyLeftAfterLeft-append [] n h)
+OnlyLeftAfterLeft-append (node ∷ nodes) n h =
+    let none = or_parts (is_left node) (list_any is_left nodes) h in
+    AllPairs-cons (λ m later. is_left m ≡ true → is_left later ≡ true) node (nodes ++ replicate n Left)
+    (λ k d lt left. absurd (both_ways (is_left node) none.0 left)) (OnlyLeftAfterLeft-append nodes n none.1)

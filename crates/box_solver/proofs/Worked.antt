@@ -1,12 +1,12 @@
 -- Answers of the search on small worked values, as the checker computes them.
-use Rattle.std.proofs.Common.{◌≡◌, ◌≤◌, ◌^◌, ℤ, pos, List, [], ◌∷◌, unsigned_abs, refl, arith}
+use Rattle.std.proofs.Common.{◌≡◌, ◌≤◌, ◌^◌, ℤ, pos, true, false, List, [], ◌∷◌, unsigned_abs, refl, arith}
 use Rattle.std.proofs.lemmas.Int.{ints}
 use Rattle.std.proofs.lemmas.List.Elements.{All-nil, All-cons}
 use Rattle.lin_model.specs.declared.op.Op.TheVariants.{Le, Ge}
 use Rattle.lin_model.specs.KeyAtom.{PlainKeyAtom, KeyAtomHolds}
 use Rattle.lin_model.specs.Key.{KeyHolds}
 use Rattle.lin_model.specs.Bounded.{variable}
-use Rattle.refutation.specs.declared.node.Node.TheVariants.{Empty, Left}
+use Rattle.refutation.specs.declared.node.Node.TheVariants.{Split, Empty, Left}
 use Rattle.refutation.specs.Bounds.{variables, key_bounds, is_empty}
 use Rattle.refutation.specs.Box.{root_box}
 use Rattle.refutation.specs.Reading.{read_over, treated}
@@ -74,3 +74,8 @@ check_not_refuted h = let no_rest = h.refutes.no_rest in absurd (cc)
 check_not_spent : ¬ IsAnswer (from_to (pos 3) (pos 9)) 0 Spent (Left ∷ []) []
 unfolding lowest_corner key_bounds variables read_over treated
 check_not_spent h = h.open_tree.first.corner_fails (from_three-holds)
+
+-- nor is one in which a box behind the first that is left is closed
+check_closed_after_left : ¬ IsAnswer (from_to (pos 3) (pos 9)) 1 Spent (Split 0 (pos 3) ∷ Left ∷ Empty ∷ []) []
+check_closed_after_left h =
+    let left : false ≡ true = h.left_alone 1 2 Left (omega arith) (omega arith) refl in absurd (cc)

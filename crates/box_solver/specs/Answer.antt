@@ -1,6 +1,6 @@
 -- What the search answers, and what it adds to the region.
-use Rattle.std.specs.Prelude.{◌≡◌, ℕ, ◌^◌, ◌<◌, ◌≤◌, ℤ, false, List, [], ◌∷◌, length, unsigned_abs}
-use Rattle.std.specs.List.{All, list_any}
+use Rattle.std.specs.Prelude.{◌≡◌, ℕ, ◌^◌, ◌<◌, ◌≤◌, ℤ, true, false, List, [], ◌∷◌, length, unsigned_abs}
+use Rattle.std.specs.List.{All, AllPairs, list_any}
 use Rattle.lin_model.specs.KeyAtom.{PlainKeyAtom}
 use Rattle.lin_model.specs.Key.{KeyHolds, key_width}
 use Rattle.refutation.specs.declared.leaf.LeafTerm.{LeafTerm}
@@ -37,9 +37,14 @@ pub record IsRefutingTree (key : List PlainKeyAtom) (budget : ℕ) (nodes : List
     pub search : IsSearchTree key nodes terms
     pub few : inner_count nodes ≤ budget
 
--- an open tree of just as many splits as the budget, which is below the room of the key
+-- nothing but Left stands behind a Left: once the budget is used up, boxes are marked and none is closed
+abbrev pub OnlyLeftAfterLeft : List Node → Type 0
+OnlyLeftAfterLeft nodes = AllPairs (λ node later. is_left node ≡ true → is_left later ≡ true) nodes
+
+-- an open tree of just as many splits as the budget, which is below the room of the key, finished with Left alone
 pub record IsSpentTree (key : List PlainKeyAtom) (budget : ℕ) (nodes : List Node) (terms : List LeafTerm) : Type 0 where
   pub open_tree : IsOpenTree key budget nodes terms
+  pub left_alone : OnlyLeftAfterLeft nodes
   pub below_room : budget < room key
 
 -- what each answer says of the nodes and terms

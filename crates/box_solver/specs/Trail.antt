@@ -2,6 +2,7 @@
 use Rattle.std.specs.Prelude.{◌≡◌, ℕ, ◌-◌, ◌^◌, ◌<◌, ◌≤◌, ℤ, pos, Bool, true, false, not, Option, Some, None, List, [], ◌∷◌, ◌++◌}
 use Rattle.std.specs.Prelude.{if◌then◌else◌, ◌==◌, length, take, unsigned_abs, slice_set}
 use Rattle.std.specs.List.{All, count_by}
+use Rattle.lin_model.specs.declared.key.TheConstants.{MAX_KEY_ATOMS}
 use Rattle.refutation.specs.Bounds.{PlainBounds}
 use Rattle.refutation.specs.Box.{PlainBox, right_half, on_side}
 use Rattle.refutation.specs.Boxed.{HasBothSides}
@@ -31,8 +32,8 @@ turn_of (v, n, right) =
 abbrev pub IsTurn : Turn → Type 0
 IsTurn (CutLeft v upper) = (v < 64) × (unsigned_abs upper ≤ 2 ^ 32)
 IsTurn (CutRight v lower) = (v < 64) × (unsigned_abs lower ≤ 2 ^ 32)
-IsTurn (NeLeft i) = i < 384
-IsTurn (NeRight i) = i < 384
+IsTurn (NeLeft i) = i < MAX_KEY_ATOMS
+IsTurn (NeRight i) = i < MAX_KEY_ATOMS
 
 -- both sides of the variable that the turn cut are there
 abbrev pub HasCutSides : PlainBounds → Turn → Type 0

@@ -14,7 +14,7 @@ use crate::region::TreeRegion;
 use crate::sides::{lower_side, upper_side};
 use crate::turn::{Turn, item_of as trail_item_of, turn_of};
 use arrayvec::ArrayVec;
-use lin_model::Key;
+use lin_model::{Key, MAX_KEY_ATOMS};
 use refutation::{Bounds, Side};
 use std::marker::Model;
 
@@ -22,18 +22,19 @@ use std::marker::Model;
 #[derive(Drop)]
 pub(crate) struct Position {
     bounds: Bounds,
-    sides: ArrayVec<Side, 384>,
+    sides: ArrayVec<Side, MAX_KEY_ATOMS>,
 }
 
 impl Model for Position {
     ghost use Rattle.std.specs.Prelude.{◌≤◌, length};
+    ghost use Rattle.lin_model.specs.declared.key.TheConstants.{MAX_KEY_ATOMS};
     ghost use Rattle.refutation.specs.Box.{PlainBox};
 
     ghost Value = { PlainBox };
 
     ghost view = { λ p. record { bounds = p.bounds; sides = p.sides.items } };
 
-    ghost invariant = { λ p. length p.sides.items ≤ 384 };
+    ghost invariant = { λ p. length p.sides.items ≤ MAX_KEY_ATOMS };
 }
 
 impl Position {
@@ -59,7 +60,7 @@ impl Position {
     /// The sides of the box.
     pub(crate) fn sides(&self) -> &[Side]
         ensures sides { result.now ≡ self.now.sides }
-        ensures few { length result.now ≤ 384 }
+        ensures few { length result.now ≤ MAX_KEY_ATOMS }
     {
         self.sides.as_slice()
     }
@@ -82,8 +83,8 @@ impl Position {
 
     /// Goes to the lower side of an atom `form != c`, while the upper side waits.
     pub(crate) fn ne_left(&mut self, region: &mut TreeRegion, atom: u16)
-        requires atom { atom < 384 }
-        requires few { length self.old.sides < 384 }
+        requires atom { atom < MAX_KEY_ATOMS }
+        requires few { length self.old.sides < MAX_KEY_ATOMS }
         requires room { 0 < region.old.spare_trail }
         requires trail { IsTrail self.old.bounds region.old.trail }
         ensures boxes { undecided region.new.trail self.new

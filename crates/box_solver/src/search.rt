@@ -14,6 +14,7 @@ use crate::write::{empty_trail, enter, leave_open, push_leaf};
 use combos::find_combo;
 use lin_model::Key;
 use refutation::{cuts_leave_proper_halves, open_trees_are_below_room};
+use tree_pool::MAX_SPLITS;
 
 /// Searches for a point that satisfies the key, with at most `budget` splits, and appends the search's tree to the region.
 ///
@@ -27,7 +28,7 @@ use refutation::{cuts_leave_proper_halves, open_trees_are_below_room};
 pub fn solve(key: &Key, budget: u32, region: &mut TreeRegion) -> Found
     requires boxed { IsBoxed key.now }
     requires some { 1 ≤ budget }
-    requires few { budget ≤ 100000 }
+    requires few { budget ≤ MAX_SPLITS }
     requires reserved { IsReserved budget region.old }
     requires trail { region.old.trail ≡ [] }
     ensures { Answers key.now budget region.old region.new result }

@@ -41,12 +41,6 @@ pub record IsLogOf (entries : List Entry) (events : List Event) (log : List Turn
   pub tells : map event_of log ≡ events
   pub places : All (StandsAtPlace entries) log
 
--- the events are those of a legal log from the opening entries to these
-pub record IsLegal (opening : List Entry) (events : List Event) (entries : List Entry) : Type 0 where
-  pub log : List Turn
-  pub is_log : IsLogOf entries events log
-  pub legal : IsLegalLog opening log entries
-
 -- the seat has no open flight after the log
 abbrev pub IsIdle : List Entry → List Turn → ℕ → Type 0
 IsIdle opening log seat = All (λ f. f.seat ≢ seat) (replayed (start opening) log).flights

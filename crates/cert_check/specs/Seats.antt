@@ -1,5 +1,5 @@
 -- What a seat has seen of a store, and how a call adds to it.
-use Rattle.std.specs.Prelude.{◌≡◌, ℕ, ◌≤◌, Bool, ◌==◌, List, ◌++◌, length, take, filter}
+use Rattle.std.specs.Prelude.{◌≡◌, ℕ, ◌≤◌, Bool, ◌==◌, List, ◌++◌, length, filter}
 use Rattle.cert_check.specs.declared.entry.Entry.{Entry}
 use Rattle.cert_check.specs.declared.wrote.Wrote.{Wrote}
 use Rattle.cert_check.specs.declared.wrote.Wrote.TheVariants.{At, Fault, Full}
@@ -23,10 +23,6 @@ pub record SeatState : Type 0 where
 -- the entries after the log that a seat has seen
 abbrev pub entries_of : SeatState → List Entry
 entries_of seat = entries_after seat.terms.opening seat.log
-
--- the first of them, which the seat's version has
-abbrev pub known_to : SeatState → List Entry
-known_to seat = take seat.seen (entries_of seat)
 
 -- whose write it was
 abbrev pub writer_of : Wrote → ℕ

@@ -1,5 +1,5 @@
 -- Entries aren't too large for frames.
-use Rattle.std.proofs.Common.{◌≡◌, ◌≤◌, false, List, [], ◌∷◌, length, take, drop, ap, ◌∙◌, arith}
+use Rattle.std.proofs.Common.{◌≡◌, ◌≤◌, false, List, [], ◌∷◌, length, take, drop, refl, ap, ◌∙◌, arith}
 use Rattle.std.specs.List.{flat_map}
 use Rattle.std.proofs.lemmas.List.{length-append, length-drop, length-map, length-take}
 use Rattle.lin_model.specs.Facts.{key-narrow}
@@ -9,7 +9,7 @@ use Rattle.refutation.specs.declared.node.Node.TheVariants.{Split, NeSplit, Comb
 use Rattle.refutation.specs.Box.{root_box}
 use Rattle.refutation.specs.Tree.{PlainTree}
 use Rattle.entry_codec.specs.Bodies.{body_bytes}
-use Rattle.entry_codec.specs.Fits.{PointsFit, SmallTreesFit, SmallCoresFit}
+use Rattle.entry_codec.specs.Fits.{FrameLimitsAreFixed, PointsFit, SmallTreesFit, SmallCoresFit}
 use Rattle.entry_codec.specs.Nodes.{terms_of, nodes_of}
 use Rattle.entry_codec.proofs.LengthLaws.{sat_length, unsat_length}
 use Rattle.entry_codec.proofs.TreeSizes.{sizes_where_read}
@@ -74,3 +74,6 @@ small_cores_fit key tree e is_key h =
       few_nodes = omega (arith, sizes.nodes_are, h.few, as_many);
       few_terms = omega (arith, sizes.terms_are, h.few, as_many_terms);
     })
+
+pub frame_limits : FrameLimitsAreFixed
+frame_limits = record { body = refl; nodes = refl; cut = refl; leaf_terms = refl; multiplier = refl }

@@ -1,4 +1,5 @@
 -- What was read as a key fits a key, and what was read as a point is one.
+use Rattle.std.specs.List.{All}
 use Rattle.std.proofs.Common.{◌≡◌, Fits, w8, ℕ, ◌+◌, ◌-◌, ◌<◌, ◌≤◌, ℤ, List, length, take, get_or, Option, Some, Ok, sym, ap, subst, ◌∙◌, arith}
 use Rattle.std.proofs.lemmas.List.{length-take, get_or-take}
 use Rattle.std.proofs.lemmas.Option.{slice_get-get_or}
@@ -7,10 +8,15 @@ use Rattle.std.specs.List.{slice_get}
 use Rattle.std.specs.declared.cmp.Ordering.TheVariants.{Less}
 use Rattle.lin_model.specs.declared.point.TheConstants.{MAX_VALUES}
 use Rattle.lin_model.specs.AtomOrder.{compare_atoms}
-use Rattle.lin_model.specs.KeyAtom.{PlainKeyAtom}
-use Rattle.lin_model.specs.Key.{FitsKey}
+use Rattle.lin_model.specs.KeyAtom.{PlainKeyAtom, IsCanonical}
+use Rattle.lin_model.specs.Key.{FitsKey, IsKey}
 use Rattle.lin_model.specs.Point.{IsPoint}
+use Rattle.cert_check.specs.declared.entry.Entry.{Entry}
+use Rattle.cert_check.specs.declared.entry.Entry.TheVariants.{Sat, Unsat}
+use Rattle.cert_check.specs.Decides.{key_of}
 use Rattle.entry_codec.specs.Grammar.{IsBytes}
+use Rattle.entry_codec.specs.Bodies.{IsInGrammar, body, body_fields}
+use Rattle.entry_codec.specs.Answers.{FramesAreChecked}
 use Rattle.entry_codec.specs.Fields.{atom_count, value_count, value}
 use Rattle.entry_codec.specs.Atoms.{atom, key, point, ComesBehind}
 use Rattle.entry_codec.specs.AtomReading.{key_at, point_at}
@@ -40,6 +46,25 @@ FitsKey-from_may atoms may = record {
   ascends = λ k d lt. comes_next atoms k d lt (may.1.1 (k + 1) d lt).1.ascends;
   few = may.0.1;
 }
+
+-- and are canonical
+canonical-from_may : (atoms : List PlainKeyAtom) → key.may atoms → All IsCanonical atoms
+unfolding key atom atom_count
+canonical-from_may atoms may k d lt = (may.1.1 k d lt).1.canonical
+
+-- so they are a key
+IsKey-from_may : (atoms : List PlainKeyAtom) → key.may atoms → IsKey atoms
+IsKey-from_may atoms may = record { fits = FitsKey-from_may atoms may; canonical = canonical-from_may atoms may }
+
+-- the key of an entry in the grammar is one
+IsKey-in_grammar : (e : Entry) → IsInGrammar e → IsKey (key_of e)
+unfolding body body_fields
+IsKey-in_grammar (Sat e) grammar = IsKey-from_may e.key grammar.may.1.0
+IsKey-in_grammar (Unsat e) grammar = IsKey-from_may e.key grammar.may.1.0
+
+pub frames_checked : FramesAreChecked
+frames_checked bytes e taken is =
+    record { key = IsKey-in_grammar e is.begins.fits.grammar; evidence = is.evidence }
 
 -- atoms that were read fit a key
 pub FitsKey-read : (bytes : List ℕ) (atoms : List PlainKeyAtom) (rest : List ℕ) → IsBytes bytes

@@ -1,7 +1,7 @@
 -- What `read_frame` may answer, and what stands in front of bytes: of all answers one is right.
 use Rattle.std.specs.Prelude.{◌≡◌, ◌⊎◌, ℕ, ◌≤◌, Result, Ok, Err, List, [], ◌++◌, length, take}
 use Rattle.cert_check.specs.declared.entry.Entry.{Entry}
-use Rattle.cert_check.specs.Decides.{HasEvidence}
+use Rattle.cert_check.specs.Decides.{HasEvidence, IsChecked}
 use Rattle.entry_codec.specs.declared.fault.FrameEnd.{FrameEnd}
 use Rattle.entry_codec.specs.declared.fault.FrameEnd.TheVariants.{Ended, Short, TooLong, BadBody, Uncertified, NoMemory}
 use Rattle.entry_codec.specs.Grammar.{IsBytes}
@@ -47,6 +47,10 @@ FramesTakeTheirBytes = (bytes : List ℕ) (e : Entry) (taken : ℕ) → IsFrame 
 abbrev pub OneFrameStands : Type 0
 OneFrameStands = (bytes : List ℕ) (e other : Entry) (taken count : ℕ) → IsFrame bytes e taken
     → IsFrame bytes other count → (e ≡ other) × (taken ≡ count)
+
+-- what stands in front of bytes is a checked entry: its key keeps the limits of keys
+abbrev pub FramesAreChecked : Type 0
+FramesAreChecked = (bytes : List ℕ) (e : Entry) (taken : ℕ) → IsFrame bytes e taken → IsChecked e
 
 -- where there is a reason why no frame stands in front, none does: so none does in front of no bytes
 abbrev pub EndsExcludeFrames : Type 0

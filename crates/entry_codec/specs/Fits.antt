@@ -1,5 +1,5 @@
 -- That entries aren't too large for frames: those with a point, and those whose trees are no larger than a search's.
-use Rattle.std.specs.Prelude.{◌≤◌, List, length}
+use Rattle.std.specs.Prelude.{◌≡◌, ◌^◌, ◌≤◌, List, length}
 use Rattle.lin_model.specs.KeyAtom.{PlainKeyAtom}
 use Rattle.lin_model.specs.Key.{IsKey}
 use Rattle.refutation.specs.Reading.{Refutes}
@@ -9,6 +9,7 @@ use Rattle.cert_check.specs.declared.entry.Entry.TheVariants.{Sat, Unsat}
 use Rattle.cert_check.specs.Decides.{IsChecked}
 use Rattle.cert_check.specs.Entries.{PlainSatEntry, PlainUnsatEntry}
 use Rattle.cert_check.specs.Shrunk.{IsShrunk}
+use Rattle.entry_codec.specs.declared.limits.TheConstants.{MAX_BODY, MAX_NODES, MAX_CUT, MAX_LEAF_TERMS, MAX_MULTIPLIER}
 use Rattle.entry_codec.specs.declared.limits.TheConstants.{MAX_SPLITS, MAX_SEARCH_NODES, MAX_SEARCH_TERMS}
 use Rattle.entry_codec.specs.Frames.{IsSmallEnough}
 
@@ -35,3 +36,11 @@ pub record IsSmallCore (key : List PlainKeyAtom) (tree : PlainTree) (e : PlainUn
 abbrev pub SmallCoresFit : Type 0
 SmallCoresFit = (key : List PlainKeyAtom) (tree : PlainTree) (e : PlainUnsatEntry) → IsKey e.key
     → IsSmallCore key tree e → IsSmallEnough (Unsat e)
+
+-- the limits of frames, as numbers
+pub record FrameLimitsAreFixed : Type 0 where
+  pub body : MAX_BODY ≡ 2 ^ 24
+  pub nodes : MAX_NODES ≡ 2 ^ 20
+  pub cut : MAX_CUT ≡ 2 ^ 32
+  pub leaf_terms : MAX_LEAF_TERMS ≡ 8
+  pub multiplier : MAX_MULTIPLIER ≡ 2 ^ 31

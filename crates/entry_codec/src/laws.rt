@@ -1,6 +1,6 @@
 //! Laws of frames, each the contract of a function that does nothing, or only calls laws of crates below.
 ghost use Rattle.entry_codec.specs.Answers.{WrittenIsRead, FramesTakeTheirBytes, OneFrameStands, EndsExcludeFrames};
-ghost use Rattle.entry_codec.specs.Answers.{BytesHaveOneAnswer};
+ghost use Rattle.entry_codec.specs.Answers.{BytesHaveOneAnswer, FramesAreChecked};
 
 use refutation::each_tree_has_one_answer;
 
@@ -17,6 +17,11 @@ pub fn frames_take_their_bytes()
 /// The frame of at most one entry stands in front of some bytes.
 pub fn one_frame_stands()
     ensures { OneFrameStands }
+{}
+
+/// What stands in front of some bytes is a checked entry: its key keeps the limits of keys too.
+pub fn frames_are_checked()
+    ensures { FramesAreChecked }
 {}
 
 /// Where some end of `read_frame`, but for want of memory, is right, no frame of an entry whose evidence checks stands

@@ -11,6 +11,7 @@ use Rattle.entry_codec.specs.Frames.{frame_of}
 use Rattle.outside.specs.Crash.{Torn, patched}
 use Rattle.journal.specs.declared.limits.TheConstants.{HEADER, MAX_FILE}
 use Rattle.journal.specs.Files.{IsStorable, GoesOnWith, frames_of}
+use Rattle.journal.specs.Laws.{FileLimitsAreFixed}
 use Rattle.journal.specs.Recovery.{IsUnbegun, KeepsEntries, NoFrame, RecoversTo}
 use Rattle.journal.proofs.FileLemmas.{some_bytes}
 
@@ -92,3 +93,6 @@ KeepsEntries-torn file image unbegun torn entries recovers =
 -- the header over a file that wasn't begun is the header alone
 pub patched-unbegun : (file : List ℕ) → IsUnbegun file → patched file 0 HEADER ≡ HEADER
 patched-unbegun file unbegun = ap (λ (l : List ℕ). HEADER ++ l) (drop_all (length HEADER) file unbegun.short)
+
+pub limits : FileLimitsAreFixed
+limits = record { header = refl; file = refl; entries = refl; store = refl }

@@ -11,3 +11,4 @@ mod RunLemmas
 mod PlaceLemmas
 mod ReadingLemmas
 mod ScanLemmas
+mod WholeLemmas

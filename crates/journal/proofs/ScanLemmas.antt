@@ -10,7 +10,7 @@ use Rattle.std.specs.Option.{IfSome}
 use Rattle.cert_check.specs.declared.entry.Entry.{Entry}
 use Rattle.entry_codec.specs.declared.fault.FrameEnd.{FrameEnd}
 use Rattle.entry_codec.specs.declared.fault.FrameEnd.TheVariants as ends
-use Rattle.entry_codec.specs.Answers.{EndsExcludeFrames, IsFrameEnd}
+use Rattle.entry_codec.specs.Answers.{EndsExcludeFrames, IsFrameAnswer, IsFrameEnd}
 use Rattle.entry_codec.specs.Frames.{IsFrame, frame_of, framed}
 use Rattle.entry_codec.specs.Numbers.{long}
 use Rattle.outside.specs.Runs.{OnlyLooks}
@@ -22,7 +22,7 @@ use Rattle.journal.specs.declared.recovered.StartFault.TheVariants as faults
 use Rattle.journal.specs.declared.recovered.Stop.{Stop}
 use Rattle.journal.specs.declared.recovered.Stop.TheVariants.{TooMany}
 use Rattle.journal.specs.Files.{GoesOnWith, IsStorable, counted, end_of, frames_of}
-use Rattle.journal.specs.Reading.{HasHeader, IsRead, IsStopAt, MayBeRead, StandsInFront, rest_at}
+use Rattle.journal.specs.Reading.{HasHeader, IsRead, IsStopAt, MayBeRead, rest_at}
 use Rattle.journal.specs.Opening.{start_cause}
 use Rattle.journal.specs.Recovery.{IsForeign, IsInOrder, IsRecovered, MayStop, NoFrame, StopsFor}
 use Rattle.journal.proofs.FileLemmas.{end-push, front-push, some_bytes}
@@ -119,7 +119,7 @@ end_of_none (ends.Uncertified refused) is =
     )
 end_of_none ends.NoMemory is = absurd is
 
-stops_at : (entries : List Entry) (rest : List ℕ) (end : FrameEnd) (stop : Option Stop) → length entries < MAX_ENTRIES
+pub stops_at : (entries : List Entry) (rest : List ℕ) (end : FrameEnd) (stop : Option Stop) → length entries < MAX_ENTRIES
     → IsFrameEnd rest end → IsStopAt end stop → StopsFor entries rest stop
 stops_at entries rest end None few is stops = subst (IsFrameEnd rest) stops is
 stops_at entries rest end (Some stop) few is stops =
@@ -231,14 +231,14 @@ said_before old new P same is = subst (λ (content : Option (List ℕ)). IfSome 
 
 module _ (old new : DiskState) (looks : OnlyLooks old new) (at : ℕ) (entries : List Entry) (count : ℕ)
     (run : IsRun old.content at entries count) (answer : Result (Entry × ℕ) FrameEnd) (read : MayBeRead at answer)
-    (stands : IfSome new.content (λ file. StandsInFront (rest_at at file) answer)) where
+    (stands : IfSome new.content (λ file. IsFrameAnswer (rest_at at file) answer)) where
   pub IsRun-read : (items : List Entry) (e : Entry) (taken : ℕ) → answer ≡ Ok (e, taken) → items ≡ entries ++ e ∷ []
       → IsRun old.content (at + taken) items (count + 1)
   IsRun-read items e taken is pushed =
       subst (λ (l : List Entry). IsRun old.content (at + taken) l (count + 1)) (sym pushed) (
       IsRun-more old.content at entries count e taken run (subst (MayBeRead at) is read)
       (said_before old.content new.content (λ file. IsFrame (rest_at at file) e taken) looks.content
-      (subst (λ (a : Result (Entry × ℕ) FrameEnd). IfSome new.content (λ file. StandsInFront (rest_at at file) a)) is stands))
+      (subst (λ (a : Result (Entry × ℕ) FrameEnd). IfSome new.content (λ file. IsFrameAnswer (rest_at at file) a)) is stands))
       )
 
   pub end_read : (end : FrameEnd) → answer ≡ Err end
@@ -246,7 +246,7 @@ module _ (old new : DiskState) (looks : OnlyLooks old new) (at : ℕ) (entries :
   end_read end is = (
     subst (MayBeRead at) is read,
     said_before old.content new.content (λ file. IsFrameEnd (rest_at at file) end) looks.content
-        (subst (λ (a : Result (Entry × ℕ) FrameEnd). IfSome new.content (λ file. StandsInFront (rest_at at file) a)) is stands),
+        (subst (λ (a : Result (Entry × ℕ) FrameEnd). IfSome new.content (λ file. IsFrameAnswer (rest_at at file) a)) is stands),
   )
 
 -- the cause of a fault, since a disk that was only looked at

@@ -5,8 +5,7 @@ use Rattle.cert_check.specs.declared.entry.Entry.{Entry}
 use Rattle.entry_codec.specs.declared.fault.FrameEnd.{FrameEnd}
 use Rattle.entry_codec.specs.declared.fault.FrameEnd.TheVariants.{Ended, NoMemory}
 use Rattle.entry_codec.specs.declared.limits.TheConstants.{MAX_BODY}
-use Rattle.entry_codec.specs.Answers.{IsFrameEnd}
-use Rattle.entry_codec.specs.Frames.{IsFrame, frame_of}
+use Rattle.entry_codec.specs.Frames.{frame_of}
 use Rattle.entry_codec.specs.Grammar.{Begins}
 use Rattle.entry_codec.specs.Numbers.{long}
 use Rattle.journal.specs.declared.limits.TheConstants.{HEADER, MAX_FILE}
@@ -39,11 +38,6 @@ pub record HoldsFrame (bytes others : List ℕ) : Type 0 where
   pub size : ℕ
   pub is_size : IsWholeSize (take 4 others) size
   pub front : bytes ≡ take size others
-
--- what stands in front of the bytes
-abbrev pub StandsInFront : List ℕ → Result (Entry × ℕ) FrameEnd → Type 0
-StandsInFront bytes (Ok found) = IsFrame bytes found.0 found.1
-StandsInFront bytes (Err end) = IsFrameEnd bytes end
 
 -- an entry was read whose frame takes so many bytes from this place on
 pub record IsRead (at : ℕ) (e : Entry) (taken : ℕ) : Type 0 where

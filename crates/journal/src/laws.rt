@@ -1,14 +1,34 @@
 //! Laws of files and of what they recover to, each the contract of a function that does nothing, or
 //! only calls laws of crates below.
 ghost use Rattle.journal.specs.Laws.{FramesStand, FrontsAreRecovered, JustTheseAreRecovered, KeptEntriesAreHeld};
-ghost use Rattle.journal.specs.Laws.{NoRoomStays, OneListIsRecovered};
+ghost use Rattle.journal.specs.Laws.{FileLimitsAreFixed};
+ghost use Rattle.journal.specs.Laws.{NoRoomStays, OneListIsRecovered, OneRecoveryIsRight, SomeListIsRecovered};
 
-use entry_codec::one_frame_stands;
+use entry_codec::{
+    bytes_have_one_answer, ends_exclude_frames, frames_are_checked, one_frame_stands,
+};
 
 /// A file recovers to one list of entries at most.
 pub fn one_list_is_recovered()
     ensures { OneListIsRecovered }
 {
+    one_frame_stands();
+}
+
+/// A file of bytes that isn't foreign recovers to some list of entries, and its run ends for some reason.
+pub fn some_list_is_recovered()
+    ensures { SomeListIsRecovered }
+{
+    bytes_have_one_answer();
+    ends_exclude_frames();
+    frames_are_checked();
+}
+
+/// Of a file of bytes one list of entries, one end and one reason are right.
+pub fn one_recovery_is_right()
+    ensures { OneRecoveryIsRight }
+{
+    bytes_have_one_answer();
     one_frame_stands();
 }
 
@@ -40,4 +60,9 @@ pub fn frames_stand()
 /// Where a journal has no room for an entry, it has none behind more entries.
 pub fn no_room_stays()
     ensures { NoRoomStays }
+{}
+
+/// The bytes of the header and the limits of files, as numbers.
+pub fn file_limits_are_fixed()
+    ensures { FileLimitsAreFixed }
 {}

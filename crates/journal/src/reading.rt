@@ -1,10 +1,11 @@
 //! Reading the bytes of a journal.
 ghost use Rattle.std.specs.Prelude.{◌≡◌, ◌≢◌, ◌+◌, ◌≤◌, ◌↔◌, [], if◌then◌else◌, nat_le, length, take, drop, IsTrue, IfOk, IfErr, IfSome, MatchResult, OnOk};
 ghost use Rattle.entry_codec.specs.declared.fault.FrameEnd.TheVariants.{NoMemory};
+ghost use Rattle.entry_codec.specs.Answers.{IsFrameAnswer};
 ghost use Rattle.journal.specs.declared.recovered.StartFault.TheVariants.{NoMemory as NoMemoryToStart};
 ghost use Rattle.outside.specs.Runs.{OnlyLooks};
 ghost use Rattle.journal.specs.Opening.{start_cause};
-ghost use Rattle.journal.specs.Reading.{HoldsFrame, IsStart, IsWholeSize, MayBeRead, StandsInFront, rest_at};
+ghost use Rattle.journal.specs.Reading.{HoldsFrame, IsStart, IsWholeSize, MayBeRead, rest_at};
 
 use crate::limits::{HEADER, MAX_FILE};
 use crate::recovered::StartFault;
@@ -41,7 +42,7 @@ pub fn read_next<D: Disk>(
     requires { at ≤ MAX_FILE }
     ensures read { IfOk result (MayBeRead at) }
     ensures stands { IfOk result (λ answer.
-        IfSome (D.state disk.old).content (λ file. StandsInFront (rest_at at file) answer)) }
+        IfSome (D.state disk.old).content (λ file. IsFrameAnswer (rest_at at file) answer)) }
     ensures cause { IfErr result (start_cause (D.state disk.old) (D.state disk.new)) }
     ensures looks { OnlyLooks (D.state disk.old) (D.state disk.new) }
 {

@@ -8,3 +8,4 @@ mod NodeLemmas
 mod FlagLemmas
 mod FlagGrowth
 mod UndecidedLemmas
+mod GrowthLemmas

@@ -19,17 +19,28 @@ pub record IsVersion (layers : List (List Entry)) (count : ℕ) : Type 0 where
   pub few : count ≤ max_entries
   pub checked : All IsChecked (joined layers)
 
+-- the last layer before this place is at least twice as long as what is behind it, with one entry more
+abbrev pub IsLongBefore : ℕ → List (List Entry) → Type 0
+IsLongBefore n layers = (k : ℕ) (d : List Entry) → k + 1 ≡ n
+    → 2 * (length (joined (drop n layers)) + 1) ≤ length (slice_index_or layers k d)
+
 -- each layer from this place on is less than twice as long as what is behind it, with one entry more
 abbrev pub AreShortFrom : ℕ → List (List Entry) → Type 0
 AreShortFrom n layers = (k : ℕ) (d : List Entry) → n ≤ k → k < length layers
     → length (slice_index_or layers k d) < 2 * (length (joined (drop (k + 1) layers)) + 1)
 
--- the layers with an entry more: those that were so short became one with it, and all others stayed
+-- the layers with an entry more: just those behind the last that is long became one with it, and all others stayed
 pub record AreGrown (layers : List (List Entry)) (e : Entry) (grown : List (List Entry)) : Type 0 where
   pub kept : ℕ
   pub within : kept ≤ length layers
   pub layers_are : grown ≡ take kept layers ++ (joined (drop kept layers) ++ e ∷ []) ∷ []
+  pub long : IsLongBefore kept layers
   pub short : AreShortFrom kept layers
+
+-- what adding an entry makes of layers is determined
+abbrev pub GrowthIsDetermined : Type 0
+GrowthIsDetermined = (layers grown others : List (List Entry)) (e : Entry) → AreGrown layers e grown
+    → AreGrown layers e others → grown ≡ others
 
 -- a number is no greater than the binary digits of another: where that is below 2^k, at most k
 abbrev pub IsWithinDigits : ℕ → ℕ → Type 0

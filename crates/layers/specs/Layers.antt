@@ -11,6 +11,11 @@ abbrev pub joined : List (List Entry) → List Entry
 joined [] = []
 joined (layer ∷ layers) = layer ++ joined layers
 
+-- all entries in one layer, where there are any
+abbrev pub one_layer : List Entry → List (List Entry)
+one_layer [] = []
+one_layer (e ∷ es) = (e ∷ es) ∷ []
+
 -- the entry decides a key that none of these entries decides
 pub record DecidesMore (entries : List Entry) (e : Entry) : Type 0 where
   pub key : List PlainKeyAtom

@@ -1,9 +1,7 @@
 //! The layers of a version to which an entry is added.
-ghost use Rattle.std.specs.Prelude.{◌≡◌, ◌+◌, ◌*◌, ◌<◌, ◌≤◌, [], ◌∷◌, ◌++◌, IfOk, ℕ, List, length, take, drop};
-ghost use Rattle.std.specs.Prelude.{slice_index_or};
+ghost use Rattle.std.specs.Prelude.{◌≡◌, ◌<◌, ◌≤◌, [], ◌∷◌, ◌++◌, IfOk, length, take, drop};
 ghost use Rattle.cert_check.specs.Machine.{max_entries};
-ghost use Rattle.cert_check.specs.declared.entry.Entry.{Entry as AnyEntry};
-ghost use Rattle.layers.specs.Halving.{AreShortFrom};
+ghost use Rattle.layers.specs.Halving.{AreShortFrom, IsLongBefore};
 ghost use Rattle.layers.specs.Layers.{joined};
 
 use crate::layer::Layer;
@@ -36,8 +34,7 @@ pub(crate) fn kept_layers(layers: &[Shared<Layer>]) -> usize
     requires { length (joined layers.now) < max_entries }
     ensures within { result ≤ length layers.now }
     ensures short { AreShortFrom result layers.now }
-    ensures long { (k : ℕ) (d : List AnyEntry) → k + 1 ≡ result
-        → 2 * (length (joined (drop result layers.now)) + 1) ≤ length (slice_index_or layers.now k d) }
+    ensures long { IsLongBefore result layers.now }
 {
     let mut front = layers;
     let mut behind = 1;

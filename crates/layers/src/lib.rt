@@ -9,6 +9,6 @@ mod sharing;
 mod tries;
 mod version;
 
-pub use laws::later_firsts_are_first;
+pub use laws::{growth_is_determined, later_firsts_are_first};
 pub use layer::Layer;
 pub use version::Version;

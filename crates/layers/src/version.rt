@@ -4,7 +4,7 @@ ghost use Rattle.std.specs.Prelude.{slice_get};
 ghost use Rattle.std.specs.Prelude.{ℕ};
 ghost use Rattle.cert_check.specs.Decides.{IsFirstDeciding, NoneDecides};
 ghost use Rattle.cert_check.specs.Machine.{max_entries};
-ghost use Rattle.layers.specs.Layers.{DecidesMore, IsFirstAtFrom, IsFirstFrom, joined};
+ghost use Rattle.layers.specs.Layers.{DecidesMore, IsFirstAtFrom, IsFirstFrom, joined, one_layer};
 ghost use Rattle.layers.specs.Tries.{LayersHaveNodes};
 ghost use Rattle.layers.specs.Halving.{AreGrown, AreHalving, IsVersion, IsWithinDigits};
 
@@ -50,7 +50,8 @@ impl Version {
     /// The version of these entries, at most 2^20, in one layer.
     pub fn of(alloc: Global, entries: Vec<Shared<Entry>>) -> Result<Version, NoMemory>
         requires { length entries.items ≤ max_entries }
-        ensures { IfOk result (λ version. joined version ≡ entries.items) }
+        ensures entries { IfOk result (λ version. joined version ≡ entries.items) }
+        ensures layers { IfOk result (λ version. version ≡ one_layer entries.items) }
     {
         if entries.is_empty() {
             return Ok(Version {

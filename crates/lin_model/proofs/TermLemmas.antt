@@ -1,10 +1,10 @@
--- The value of a side that grows at its end.
+-- The value of a side that grows at its end, and the size of a factor.
 use Rattle.std.proofs.Common.{◌≡◌, ℕ, ◌+◌, ◌<◌, ◌≤◌, List, [], ◌∷◌, ◌++◌, length, take, get_or, ℤ, ◌+ℤ◌, arith, ap, sym}
 use Rattle.std.proofs.Common.{◌∙◌}
-use Rattle.std.specs.Prelude.{unsigned_abs}
+use Rattle.std.specs.Prelude.{◌^◌, Option, Some, None, unsigned_abs}
 use Rattle.std.proofs.lemmas.Int.{ints}
 use Rattle.std.proofs.lemmas.List.{take_more}
-use Rattle.lin_model.specs.Terms.{PlainTerm, term_value, value_of}
+use Rattle.lin_model.specs.Terms.{PlainTerm, TermFits, term_value, value_of}
 
 pub value_of-push : (terms : List PlainTerm) (term : PlainTerm) (values : List ℤ)
     → value_of (terms ++ term ∷ []) values ≡ value_of terms values +ℤ term_value term values
@@ -25,3 +25,9 @@ value_of_more terms k term values within is =
 -- the size of a sum
 pub abs-add : (a b : ℤ) → unsigned_abs (a +ℤ b) ≤ unsigned_abs a + unsigned_abs b
 abs-add a b = omega (arith, ints)
+
+-- the factor of a term, be it one of a variable or a constant, has at most 40 bits
+pub factor_is_small : (factor : ℤ) (var : Option ℕ) → TermFits (record { factor = factor; var = var })
+    → unsigned_abs factor ≤ 2 ^ 40
+factor_is_small factor None fits = omega (arith, fits)
+factor_is_small factor (Some var) fits = omega (arith, fits)

@@ -109,7 +109,7 @@ pub record IsRightAnswer (Standing : List PlainKeyAtom → Reply → Type 0) (q 
 abbrev pub StandsAt : ℕ → SeatState → List PlainKeyAtom → Reply → Type 0
 StandsAt budget seat key reply = Stands seat.log (entries_of seat) seat.terms.number budget key reply
 
--- The query was answered rightly, and the seat is left as by the asks of the answer's parts, in order, and by no other.
+-- The query was answered rightly, and the seat is left just as by the asks of the answer's parts, in order.
 pub record AnswersQuery (budget : ℕ) (q : PlainCondition) (answer : Answer) (old new : SeatState) : Type 0 where
   pub right : IsRightAnswer (StandsAt budget new) q answer
   pub asks : AsksAll budget right.keys answer.parts old new

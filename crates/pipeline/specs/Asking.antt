@@ -26,7 +26,7 @@ pub record EndsAtCore (slices : List SliceKey) (replies : List Reply) : Type 0 w
   pub core_last : OnlyLastHasCore replies
   pub all : NoneHasCore replies → length replies ≡ length slices
 
--- their keys were asked in order, and nothing else was
+-- the seat is left just as by asking their keys, in order
 pub record AsksUpToCore (budget : ℕ) (slices : List SliceKey) (replies : List Reply) (old new : SeatState) : Type 0
   where
     pub ends : EndsAtCore slices replies

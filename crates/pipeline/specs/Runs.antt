@@ -9,7 +9,7 @@ use Rattle.cert_check.specs.Seats.{SeatState}
 use Rattle.pipeline.specs.declared.answers.Answer.{Answer}
 use Rattle.pipeline.specs.Answers.{AnswersQuery, IsRightAnswer, StandsAt}
 
--- the queries were answered in order, and nothing else was asked
+-- the seat is left just as by answering the queries in order, with these answers
 abbrev pub AnswersAll : ℕ → List PlainCondition → List Answer → SeatState → SeatState → Type 0
 AnswersAll budget queries answers old new = InTurn (AnswersQuery budget) queries answers old new
 

@@ -19,8 +19,8 @@ use std::alloc::Global;
 /// solution, the verdict is the least such atom, and nothing is asked. Otherwise the slices with variables are asked in
 /// order, up to and with the first whose reply has a core: the verdict is unsat by that slice. Where there is none it
 /// is unknown of the first slice on which the splits were used up, and where there is none of these either it is sat,
-/// with the value for each variable that its slice's entry has. There are at most 64 parts. The oracle is left as by
-/// the asks of the answer's parts, in order, and by no other ask; after want of memory as by those that came before it.
+/// with the value for each variable that its slice's entry has. There are at most 64 parts. The oracle is left just as
+/// by the asks of the answer's parts, in order; after want of memory as by those that came before it.
 pub fn answer<O: SliceOracle>(
     alloc: Global,
     query: &Condition,

@@ -2,6 +2,8 @@
 use crate::escapes::{escaped, unescaped};
 use outside::NoMemory;
 use std::alloc::{AllocError, AllocFailed, Global};
+use std::num::ParseIntError;
+use std::string::FromUtf8Error;
 
 /// What answers the calls of a table.
 pub trait Subject {
@@ -22,7 +24,7 @@ pub enum RowFault {
     NoArrow,
     /// What stands behind a backslash is no escape.
     BadEscape,
-    /// There is no such call.
+    /// There is no such call, or it can't be made with the argument.
     NoCall,
     /// Memory ran out.
     NoMemory,
@@ -43,6 +45,18 @@ impl From<AllocError> for RowFault {
 impl<T: Drop> From<AllocFailed<T>> for RowFault {
     fn from(_: AllocFailed<T>) -> RowFault {
         RowFault::NoMemory
+    }
+}
+
+impl From<ParseIntError> for RowFault {
+    fn from(_: ParseIntError) -> RowFault {
+        RowFault::NoCall
+    }
+}
+
+impl From<FromUtf8Error> for RowFault {
+    fn from(_: FromUtf8Error) -> RowFault {
+        RowFault::NoCall
     }
 }
 

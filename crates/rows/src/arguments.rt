@@ -14,7 +14,7 @@ pub fn numbers_of(alloc: Global, text: &str) -> Result<Vec<u64>, RowFault> {
 
 /// A number.
 pub fn number_of(word: &str) -> Result<u64, RowFault> {
-    word.parse::<u64>().ok().ok_or(RowFault::NoCall)
+    Ok(word.parse::<u64>()?)
 }
 
 /// Bytes of two hexadecimal digits each, with blanks between them.
@@ -28,7 +28,7 @@ pub fn bytes_of(alloc: Global, text: &str) -> Result<Vec<u8>, RowFault> {
 
 /// The byte of two hexadecimal digits.
 fn byte_of(word: &str) -> Result<u8, RowFault> {
-    u8::from_str_radix(word, 16).ok().ok_or(RowFault::NoCall)
+    Ok(u8::from_str_radix(word, 16)?)
 }
 
 /// The same of bytes, the other way round.

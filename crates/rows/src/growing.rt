@@ -62,9 +62,7 @@ fn growing_queries(alloc: Global) -> Result<String, NoMemory> {
     for line in COMPARISONS.lines() {
         comparisons.push_str(line)?;
         comparisons.push_str("\n")?;
-        for piece in ["query\n", variables.as_str(), comparisons.as_str()] {
-            queries.push_str(piece)?;
-        }
+        queries.push_str(&format!(in alloc; "query\n{variables}{comparisons}")?)?;
     }
     Ok(queries)
 }
@@ -72,9 +70,7 @@ fn growing_queries(alloc: Global) -> Result<String, NoMemory> {
 fn variable_lines(alloc: Global) -> Result<String, NoMemory> {
     let mut lines = String::new(alloc);
     for name in NAMES.split(' ') {
-        for piece in ["var ", name, " -2147483648 2147483647\n"] {
-            lines.push_str(piece)?;
-        }
+        lines.push_str(&format!(in alloc; "var {name} -2147483648 2147483647\n")?)?;
     }
     Ok(lines)
 }

@@ -27,7 +27,7 @@ pub struct Machine {
     /// At which calls a sink fails.
     writes: Vec<u64>,
     /// The output of the last run.
-    output: Vec<u8>,
+    output: String,
     /// Its report.
     report: Option<Report>,
 }
@@ -57,7 +57,7 @@ impl Machine {
             line: String::new(alloc),
             reads: Vec::new(alloc),
             writes: Vec::new(alloc),
-            output: Vec::new(alloc),
+            output: String::new(alloc),
             report: None,
         }
     }
@@ -224,8 +224,7 @@ impl Machine {
         self.other = other;
         self.report = Some(report);
         self.output = output;
-        let text = str::from_utf8(&self.output).ok().ok_or(RowFault::NoCall)?;
-        Ok(format!(in alloc; "{status} {text}")?)
+        Ok(format!(in alloc; "{status} {}", self.output)?)
     }
 
     /// What is there after a run.
@@ -235,19 +234,15 @@ impl Machine {
             "other" => Ok(hex_of(alloc, self.other.bytes())?),
             "calls" => Ok(format!(in alloc; "{} {}", self.disk.calls(), self.other.calls())?),
             "images" => crashes::images(alloc, &self.disk),
-            "count" => Ok(count_of(alloc, self.output_text()?, text)?),
-            "output" => Ok(String::from_str(alloc, line_of(self.output_text()?, text)?)?),
-            "verdict" => verdict_of(alloc, line_of(self.output_text()?, text)?),
+            "count" => Ok(count_of(alloc, self.output.as_str(), text)?),
+            "output" => Ok(String::from_str(alloc, line_of(self.output.as_str(), text)?)?),
+            "verdict" => verdict_of(alloc, line_of(self.output.as_str(), text)?),
             "report" => match &self.report {
                 Some(report) => Ok(reports::told(alloc, report)?),
                 None => Err(RowFault::NoCall),
             },
             _ => Err(RowFault::NoCall),
         }
-    }
-
-    fn output_text(&self) -> Result<&str, RowFault> {
-        str::from_utf8(&self.output).ok().ok_or(RowFault::NoCall)
     }
 }
 

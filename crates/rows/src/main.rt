@@ -12,6 +12,7 @@ mod runs;
 mod sources;
 
 use machine::Machine;
+use outside::NoMemory;
 use row_table::check_table;
 use std::io;
 use std::io::ErrorKind;
@@ -19,8 +20,8 @@ use std::io::ErrorKind;
 fn main(rt: HostRuntime) -> io::Result<()> {
     let table = io::read_to_string(rt.alloc(), rt.reader())?;
     let mut machine = Machine::new(rt.alloc());
-    let told = check_table(rt.alloc(), table.as_str(), &mut machine).map_err(|_| io::Error::from(
-        ErrorKind::OutOfMemory,
-    ))?;
-    print!(rt; "{told}")
+    match check_table(rt.alloc(), table.as_str(), &mut machine) {
+        Ok(told) => rt.print(told),
+        Err(NoMemory) => Err(io::Error::from(ErrorKind::OutOfMemory)),
+    }
 }

@@ -3,6 +3,7 @@ use crate::arguments::words_of;
 use devices::{MemDisk, MemSink, MemSource};
 use green_cli::{Budget, Command, Outcome, Report, green, run_once};
 use outside::{NoGate, NoMemory, Source};
+use row_table::RowFault;
 use std::alloc::Global;
 
 /// A disk with an empty file.
@@ -16,7 +17,7 @@ pub struct Left {
     /// The status.
     pub status: u8,
     /// What the sink has.
-    pub output: Vec<u8>,
+    pub output: String,
     /// The report.
     pub report: Report,
     /// The disk that the words name a file of.
@@ -32,7 +33,7 @@ pub fn run<S: Source>(
     source: &mut S,
     writes: &[u64],
     (disk, other): (MemDisk, MemDisk),
-) -> Result<Left, NoMemory> {
+) -> Result<Left, RowFault> {
     let words = words_of(alloc, line)?;
     let mut sink = MemSink::new(alloc, writes.to_vec(alloc)?);
     let outcome = green(
@@ -48,7 +49,7 @@ pub fn run<S: Source>(
 }
 
 /// Calls `run_once` for `solve` with the usual budget and no file, over this text.
-pub fn run_solve(alloc: Global, text: &str) -> Result<Left, NoMemory> {
+pub fn run_solve(alloc: Global, text: &str) -> Result<Left, RowFault> {
     let mut source = source_of(alloc, text, &[])?;
     let mut sink = MemSink::new(alloc, Vec::new(alloc));
     let command = Command::Solve {
@@ -60,8 +61,8 @@ pub fn run_solve(alloc: Global, text: &str) -> Result<Left, NoMemory> {
     left_by(alloc, outcome, &sink)
 }
 
-fn left_by(alloc: Global, outcome: Outcome<MemDisk>, sink: &MemSink) -> Result<Left, NoMemory> {
-    let output = sink.bytes().to_vec(alloc)?;
+fn left_by(alloc: Global, outcome: Outcome<MemDisk>, sink: &MemSink) -> Result<Left, RowFault> {
+    let output = text_of(alloc, sink)?;
     let Outcome {
         status,
         report,
@@ -75,6 +76,11 @@ fn left_by(alloc: Global, outcome: Outcome<MemDisk>, sink: &MemSink) -> Result<L
         disk,
         other,
     })
+}
+
+/// What the sink has.
+fn text_of(alloc: Global, sink: &MemSink) -> Result<String, RowFault> {
+    Ok(String::from_utf8(sink.bytes().to_vec(alloc)?)?)
 }
 
 /// A source of this text that fails at these calls.

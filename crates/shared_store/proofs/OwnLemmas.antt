@@ -48,12 +48,15 @@ failed_is_end = record { seat = refl; mine = refl; flights = λ s. refl; grow = 
 -- a core that took a turn is a core
 core_after : CoresTakeTurns → (turn : Turn) (old new : PlainCore) → IsCore old → TakesTurn turn old new → IsCore new
 core_after law turn old new is takes =
-    subst (λ (es : List Entry). IsCore (record { opening = es; state = new.state; events = new.events }))
+    subst (λ (es : List Entry).
+    IsCore (record { opening = es; state = new.state; layers = new.layers; events = new.events }))
     (sym takes.opening)
-    (subst (λ (s : CoreState). IsCore (record { opening = old.opening; state = s; events = new.events }))
+    (subst (λ (s : CoreState).
+    IsCore (record { opening = old.opening; state = s; layers = new.layers; events = new.events }))
     (sym takes.state)
-    (subst (λ (es : List Event). IsCore (record { opening = old.opening; state = after old.state turn; events = es }))
-    (sym takes.events) (law old turn is takes.possible).is_core))
+    (subst (λ (es : List Event).
+    IsCore (record { opening = old.opening; state = after old.state turn; layers = new.layers; events = es }))
+    (sym takes.events) (law old turn new.layers is takes.possible takes.layers).is_core))
 
 -- and so is one after a flight
 pub core_after_flight : CoresTakeTurns → (key : List PlainKeyAtom) (end : Turn) (old new : PlainCore) → IsCore old

@@ -1,3 +1,8 @@
 mod FlightLemmas
 mod TurnLemmas
 mod SeenLemmas
+mod ConditionLemmas
+mod OneOfAKeyLemmas
+mod ScheduleLemmas
+mod Worked
+mod OutcomeLemmas

@@ -13,6 +13,7 @@ use Rattle.cert_check.specs.declared.event.Event.TheVariants.{Begun, Ended}
 use Rattle.cert_check.specs.declared.event.Ending.TheVariants.{Kept, Unkept, Spent, Failed}
 use Rattle.cert_check.specs.declared.flight.Flight.{Flight}
 use Rattle.cert_check.specs.Decides.{NoneDecides}
+use Rattle.cert_check.specs.Facts.{replayed-append}
 use Rattle.cert_check.specs.Laws.{FlightsBeginRightly}
 use Rattle.cert_check.specs.Logs.{IsLegalLog, replayed, start}
 use Rattle.cert_check.specs.Machine.{CoreState, IsFlying, MayKeep, Turn, begun, kept, unkept, spent, failed, after, seat_of, without}
@@ -95,17 +96,13 @@ stays s (unkept seat) f has other = others_stay seat s.flights f has (λ same. o
 stays s (spent seat) f has other = others_stay seat s.flights f has (λ same. other (sym same))
 stays s (failed seat) f has other = others_stay seat s.flights f has (λ same. other (sym same))
 
-stays_through : (s : CoreState) (log : List Turn) (f : Flight) → Contains s.flights f
+pub stays_through : (s : CoreState) (log : List Turn) (f : Flight) → Contains s.flights f
     → All (λ turn. seat_of turn ≢ f.seat) log → Contains (replayed s log).flights f
 stays_through s [] f has others = has
 stays_through s (turn ∷ log) f has others =
     stays_through (after s turn) log f
     (stays s turn f has (All-head (λ (t : Turn). seat_of t ≢ f.seat) turn log others))
     (All-tail (λ (t : Turn). seat_of t ≢ f.seat) turn log others)
-
-replayed_parts : (s : CoreState) (log more : List Turn) → replayed s (log ++ more) ≡ replayed (replayed s log) more
-replayed_parts s [] more = refl
-replayed_parts s (turn ∷ log) more = replayed_parts (after s turn) log more
 
 -- ---- the flight that began last
 
@@ -120,21 +117,30 @@ turn_seat entries (Ended seat Unkept) = refl
 turn_seat entries (Ended seat Spent) = refl
 turn_seat entries (Ended seat Failed) = refl
 
--- two flights of one seat are the same
-one_flight : (fs : List Flight) → AllPairs (λ f g. f.seat ≢ g.seat) fs → (f g : Flight) → Contains fs f → Contains fs g
-    → f.seat ≡ g.seat → f ≡ g
-one_flight fs apart f g (i, i_lt, f_is) (j, j_lt, g_is) same = elim (cases_lt i j) [
+-- two flights that are alike in what tells flights apart are the same
+pub one_by : {X : Type 0} (part : Flight → X) (fs : List Flight) → AllPairs (λ f g. part f ≢ part g) fs → (f g : Flight)
+    → Contains fs f → Contains fs g → part f ≡ part g → f ≡ g
+one_by {X} part fs apart f g (i, i_lt, f_is) (j, j_lt, g_is) same = elim (cases_lt i j) [
   | inl before ↦ absurd (apart i j f before j_lt
-      (ap (λ (h : Flight). h.seat) f_is ∙ (same ∙ ap (λ (h : Flight). h.seat) (sym (get_or_default fs j f g j_lt ∙ g_is)))))
+      (ap part f_is ∙ (same ∙ ap part (sym (get_or_default fs j f g j_lt ∙ g_is)))))
   | inr behind ↦ elim (cases_lt j i) [
     | inl before ↦ absurd (apart j i g before i_lt
-        (ap (λ (h : Flight). h.seat) g_is
-        ∙ (sym same ∙ ap (λ (h : Flight). h.seat) (sym (get_or_default fs i g f i_lt ∙ f_is)))))
+        (ap part g_is ∙ (sym same ∙ ap part (sym (get_or_default fs i g f i_lt ∙ f_is)))))
     | inr not_before ↦
         let at : i ≡ j = omega (arith, behind, not_before) in
         sym f_is ∙ (ap (λ (k : ℕ). get_or fs k f) at ∙ (get_or_default fs j f g j_lt ∙ g_is))
   ]
 ]
+
+-- two flights of one seat are the same
+one_flight : (fs : List Flight) → AllPairs (λ f g. f.seat ≢ g.seat) fs → (f g : Flight) → Contains fs f → Contains fs g
+    → f.seat ≡ g.seat → f ≡ g
+one_flight fs apart f g = one_by (λ (h : Flight). h.seat) fs apart f g
+
+-- a seat that has a flight
+pub flies : (s : CoreState) (seat : ℕ) (key : List PlainKeyAtom) → IsFlying s seat key
+    → Contains s.flights (record { seat = seat; key = key })
+flies s seat key (k, f, lt, at, same) = (k, lt, get_or_default s.flights k _ f lt ∙ (at ∙ same))
 
 module _ (core : PlainCore) (is : IsCore core) (seat seen : ℕ) (began : BeganLast core.events seat seen) where
   abbrev entries : List Entry
@@ -161,22 +167,21 @@ module _ (core : PlainCore) (is : IsCore core) (seat seen : ℕ) (began : BeganL
       All-map (λ (turn : Turn). seat_of turn ≢ seat) (turn_of entries) began.behind
       (λ k d lt. subst (λ (n : ℕ). n ≢ seat) (sym (turn_seat entries (get_or began.behind k d))) (began.others k d lt))
 
-  flies : Contains core.state.flights (record { seat = seat; key = began.key })
-  flies =
+  still_flies : Contains core.state.flights (record { seat = seat; key = began.key })
+  still_flies =
       let s : CoreState = replayed (start core.opening) before in
       let flight : Flight = record { seat = seat; key = began.key } in
       subst (λ (t : CoreState). Contains t.flights flight)
-      (sym (replayed_parts (start core.opening) before (begun seat began.key seen ∷ since))
+      (sym (replayed-append (start core.opening) before (begun seat began.key seen ∷ since))
       ∙ (ap (replayed (start core.opening)) (sym log_is) ∙ is.leads))
       (stays_through (after s (begun seat began.key seen)) since flight
       (Contains-append_right s.flights (flight ∷ []) flight (0, omega arith, refl)) others_since)
 
   key_is : (key : List PlainKeyAtom) → IsFlying core.state seat key → began.key ≡ key
-  key_is key (k, f, lt, at, same) =
-      let flight : Flight = record { seat = seat; key = key } in
+  key_is key flying =
       ap (λ (g : Flight). g.key)
-      (one_flight core.state.flights is.apart.seats (record { seat = seat; key = began.key }) flight flies
-      (k, lt, get_or_default core.state.flights k flight f lt ∙ (at ∙ same)) refl)
+      (one_flight core.state.flights is.apart.seats (record { seat = seat; key = began.key })
+      (record { seat = seat; key = key }) still_flies (flies core.state seat key flying) refl)
 
 -- the entry that ends the flight decides a key that none of those does that the seat had seen
 pub ends_with_more : FlightsBeginRightly → (core : PlainCore) (seat place seen : ℕ) (entry : Entry) → IsCore core

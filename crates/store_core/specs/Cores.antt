@@ -8,16 +8,19 @@ use Rattle.cert_check.specs.declared.event.Ending.{Ending}
 use Rattle.cert_check.specs.declared.event.Ending.TheVariants.{Kept, Unkept, Spent, Failed}
 use Rattle.cert_check.specs.Machine.{CoreState, Turn, begun, kept, unkept, spent, failed, AreApart, max_entries}
 use Rattle.cert_check.specs.Logs.{IsLegalLog, IsLogOf, replayed, start}
+use Rattle.layers.specs.Layers.{one_layer}
 
--- the entries that the core began with, its state, and the events since
+-- the entries that the core began with, its state, the layers in which the version has the entries, and the events
+-- since it began
 pub record PlainCore : Type 0 where
   pub opening : List Entry
   pub state : CoreState
+  pub layers : List (List Entry)
   pub events : List Event
 
 -- the core before any event
 abbrev pub started : List Entry → PlainCore
-started opening = record { opening = opening; state = start opening; events = [] }
+started opening = record { opening = opening; state = start opening; layers = one_layer opening; events = [] }
 
 -- the turn of an entry that was kept at a place; where there is none, the flight counts as failed
 abbrev pub kept_turn : ℕ → ℕ → Option Entry → Turn

@@ -11,17 +11,27 @@ use Rattle.cert_check.specs.declared.flight.Flight.{Flight}
 use Rattle.cert_check.specs.Machine.{CoreState, Turn, begun, kept, unkept, spent, failed, after, event_of}
 use Rattle.cert_check.specs.Machine.{IsBehind, IsJoined, MayBegin, MayCome}
 use Rattle.layers.specs.Layers.{joined}
+use Rattle.layers.specs.Halving.{AreGrown}
 use Rattle.store_core.specs.declared.turns.Enter.{Enter}
 use Rattle.store_core.specs.declared.turns.Enter.TheVariants.{Newer, Joined, Began}
 use Rattle.store_core.specs.declared.turns.How.{How}
 use Rattle.store_core.specs.declared.turns.How.TheVariants.{Kept, Unkept, Spent, Failed}
 use Rattle.store_core.specs.Cores.{PlainCore, log_of}
 
+-- what becomes of the layers at a turn: a kept entry is added, and else they stay
+abbrev pub LayersAfter : Turn → List (List Entry) → List (List Entry) → Type 0
+LayersAfter (begun seat key seen) old new = new ≡ old
+LayersAfter (kept seat place entry) old new = AreGrown old entry new
+LayersAfter (unkept seat) old new = new ≡ old
+LayersAfter (spent seat) old new = new ≡ old
+LayersAfter (failed seat) old new = new ≡ old
+
 -- the core took one turn, which was possible, and nothing else happened
 pub record TakesTurn (turn : Turn) (old new : PlainCore) : Type 0 where
   pub possible : MayCome old.state turn
   pub opening : new.opening ≡ old.opening
   pub state : new.state ≡ after old.state turn
+  pub layers : LayersAfter turn old.layers new.layers
   pub events : new.events ≡ old.events ++ event_of turn ∷ []
   pub log : log_of new ≡ log_of old ++ turn ∷ []
 
@@ -61,17 +71,22 @@ ending seat place Failed = failed seat
 abbrev pub end_in : CoreState → ℕ → How → Turn
 end_in s seat how = ending seat (length s.entries) how
 
--- the place of a kept entry and the new list, in its layers
+-- the place of a kept entry and the new version, in whose layers the new list stands
+pub record IsAdded (old new : PlainCore) (added : ℕ × List (List Entry)) : Type 0 where
+  pub place : added.0 ≡ length old.state.entries
+  pub layers : added.1 ≡ new.layers
+  pub list : joined added.1 ≡ new.state.entries
+
+-- the answer to the end of a flight tells these of an entry that is kept
 abbrev pub IsPlaced : PlainCore → PlainCore → How → Option (ℕ × List (List Entry)) → Type 0
 IsPlaced old new (Kept entry) None = ⊥
-IsPlaced old new (Kept entry) (Some added) = (added.0 ≡ length old.state.entries) × (joined added.1 ≡ new.state.entries)
+IsPlaced old new (Kept entry) (Some added) = IsAdded old new added
 IsPlaced old new how placed = placed ≡ None
 
--- the flight ended with the entry, which went to the end of the list; its place and the new list are these
-pub record Keeps (seat : ℕ) (entry : Entry) (old new : PlainCore) (placed : ℕ × List (List Entry)) : Type 0 where
+-- the flight ended with the entry, which went to the end of the list; its place and the new version are these
+pub record Keeps (seat : ℕ) (entry : Entry) (old new : PlainCore) (added : ℕ × List (List Entry)) : Type 0 where
   pub takes : TakesTurn (kept seat (length old.state.entries) entry) old new
-  pub place : placed.0 ≡ length old.state.entries
-  pub list : joined placed.1 ≡ new.state.entries
+  pub is_added : IsAdded old new added
 
 -- no entry is kept
 abbrev pub KeepsNothing : Ending → Type 0

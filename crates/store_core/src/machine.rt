@@ -4,7 +4,8 @@ ghost use Rattle.std.specs.Prelude.{MatchOption, MatchResult};
 ghost use Rattle.std.specs.List.{All, Any};
 ghost use Rattle.std.specs.Vec.{vec_capacity};
 ghost use Rattle.layers.specs.Layers.{joined};
-ghost use Rattle.cert_check.specs.Machine.{MayBegin, MayCome, MayEnter, begun, kept, max_entries, without};
+ghost use Rattle.cert_check.specs.Machine.{IsFlying, MayBegin, MayCome, MayEnter, begun, kept};
+ghost use Rattle.cert_check.specs.Machine.{max_entries, without};
 ghost use Rattle.cert_check.specs.declared.event.Event.TheVariants.{Ended};
 ghost use Rattle.store_core.specs.Cores.{IsCore, end_turn, started};
 ghost use Rattle.store_core.specs.Steps.{CannotBegin, CannotEnd, Ends, Enters, IsOn, Keeps, KeepsNothing, TakesTurn};
@@ -45,12 +46,14 @@ impl Model for Core {
     ghost view = { λ core. record {
       opening = joined core.opening;
       state = record { entries = joined core.version; flights = core.flights.items };
+      layers = core.version;
       events = core.events.items;
     } };
 
     ghost invariant = { λ core. IsCore (record {
       opening = joined core.opening;
       state = record { entries = joined core.version; flights = core.flights.items };
+      layers = core.version;
       events = core.events.items;
     }) × (length core.events.items + length core.flights.items ≤ vec_capacity core.events) };
 }
@@ -88,7 +91,8 @@ impl Core {
 
     /// The entries, which no later call changes.
     pub fn version(&self) -> &Shared<Version>
-        ensures { joined result.now ≡ self.now.state.entries }
+        ensures entries { joined result.now ≡ self.now.state.entries }
+        ensures layers { result.now ≡ self.now.layers }
     {
         &self.version
     }
@@ -111,6 +115,7 @@ impl Core {
     /// The entries and the events.
     pub fn into_parts(self) -> (Shared<Version>, Vec<Event>)
         ensures entries { joined result.0 ≡ self.state.entries }
+        ensures layers { result.0 ≡ self.layers }
         ensures events { result.1.items ≡ self.events }
         ensures core { IsCore self }
     {
@@ -120,6 +125,15 @@ impl Core {
             ..
         } = self;
         (version, events)
+    }
+
+    /// The key that the seat has a flight on, where it has one.
+    pub fn flight_of(&self, seat: u32) -> Option<&Shared<Key>>
+        ensures flight { MatchOption result (All (λ f. f.seat ≢ seat) self.now.state.flights)
+            (λ key. IsFlying self.now.state seat key.now) }
+        ensures core { IsCore self.now }
+    {
+        key_of_flight(&self.flights, seat)
     }
 
     /// Begins a flight of the seat on the key, for a seat that has no flight and has seen the first n entries, none of
@@ -165,7 +179,7 @@ impl Core {
     }
 
     /// Ends the flight of the seat. A kept entry, which has to decide the flight's key, goes to the end of the list;
-    /// then its place is answered, and the new list. Memory runs out only for an entry to be kept; then nothing
+    /// then its place is answered, and the version that it makes when it is added to the one before. Memory runs out only for an entry to be kept; then nothing
     /// changes, and the flight is to be ended as failed. An entry is kept while there are fewer than 2^20, and there is
     /// no room for it at just that many.
     pub fn end(
@@ -233,6 +247,18 @@ fn seat_on(flights: &[Flight], key: &Key) -> Option<u32>
     for flight in flights {
         if flight.key.get().equals(key) {
             return Some(flight.seat);
+        }
+    }
+    None
+}
+
+/// The key that the seat has a flight on, if it has one.
+fn key_of_flight(flights: &[Flight], seat: u32) -> Option<&Shared<Key>>
+    ensures { MatchOption result (All (λ f. f.seat ≢ seat) flights.now) (λ key. IsOn flights.now key.now seat) }
+{
+    for flight in flights {
+        if flight.seat == seat {
+            return Some(&flight.key);
         }
     }
     None

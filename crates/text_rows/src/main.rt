@@ -3,12 +3,12 @@
 
 mod atoms;
 mod faults;
-mod made_atoms;
-mod made_queries;
+mod numbers;
 mod queries;
 mod sessions;
 mod texts;
 
+use outside::NoMemory;
 use row_table::check_table;
 use std::io;
 use std::io::ErrorKind;
@@ -16,8 +16,8 @@ use texts::Texts;
 
 fn main(rt: HostRuntime) -> io::Result<()> {
     let table = io::read_to_string(rt.alloc(), rt.reader())?;
-    let told = check_table(rt.alloc(), table.as_str(), &mut Texts).map_err(|_| io::Error::from(
-        ErrorKind::OutOfMemory,
-    ))?;
-    print!(rt; "{told}")
+    match check_table(rt.alloc(), table.as_str(), &mut Texts) {
+        Ok(told) => rt.print(told),
+        Err(NoMemory) => Err(io::Error::from(ErrorKind::OutOfMemory)),
+    }
 }

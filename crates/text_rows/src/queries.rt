@@ -9,7 +9,7 @@ use std::alloc::Global;
 
 /// `read`, or the first fault of the query that the whole text is to be.
 pub fn read(alloc: Global, text: &[u8]) -> Result<Vec<u8>, RowFault> {
-    told_read(alloc, read_query(alloc, text, 0, false))
+    told_read(alloc, &read_query(alloc, text, 0, false))
 }
 
 /// The same of a query of two lines, of which the text is the second, and the first one declares `x` from 0 to 9.
@@ -22,7 +22,7 @@ pub fn read_line(alloc: Global, line: &[u8]) -> Result<Vec<u8>, RowFault> {
 pub fn read_first(alloc: Global, query: &[u8]) -> Result<Vec<u8>, RowFault> {
     let text = surrounded(alloc, "green 1\nexecutor\nquery\n", query, "end\n")?;
     let at = fourth_line(&text);
-    told_read(alloc, read_query(alloc, &text, at, false))
+    told_read(alloc, &read_query(alloc, &text, at, false))
 }
 
 /// Where the query ends that stands first in the text, or its first fault.
@@ -33,22 +33,28 @@ pub fn end(alloc: Global, text: &[u8], in_proof: bool) -> Result<Vec<u8>, RowFau
     }
 }
 
-/// The plain spelling of the query that the text spells, or its first fault.
+/// The plain spelling of a copy of the query that the text spells, or its first fault.
 pub fn plain(alloc: Global, text: &[u8]) -> Result<Vec<u8>, RowFault> {
     match read_query(alloc, text, 0, false) {
-        Ok((query, _)) => Ok(write_query(alloc, &query)?),
+        Ok((query, _)) => written(alloc, &query),
         Err(fault) => told(alloc, fault),
     }
+}
+
+/// The plain spelling of a copy of the query.
+fn written(alloc: Global, query: &Condition) -> Result<Vec<u8>, RowFault> {
+    let copy = query.clone()?;
+    Ok(write_query(alloc, &copy)?)
 }
 
 /// What is told of a read.
 fn told_read(
     alloc: Global,
-    read: Result<(Condition, usize), TextFault>,
+    read: &Result<(Condition, usize), TextFault>,
 ) -> Result<Vec<u8>, RowFault> {
     match read {
         Ok(_) => Ok(Vec::from_slice(alloc, b"read")?),
-        Err(fault) => told(alloc, fault),
+        Err(fault) => told(alloc, *fault),
     }
 }
 

@@ -1,5 +1,5 @@
 //! The calls that the rows make.
-use crate::{atoms, made_atoms, made_queries, queries, sessions};
+use crate::{atoms, numbers, queries, sessions};
 use outside::NoMemory;
 use row_table::{RowFault, Subject};
 use std::alloc::Global;
@@ -32,20 +32,12 @@ fn answer_of(alloc: Global, name: &str, argument: &[u8]) -> Result<Vec<u8>, RowF
         "end" => queries::end(alloc, argument, false),
         "end_in_proof" => queries::end(alloc, argument, true),
         "plain_query" => queries::plain(alloc, argument),
-        "made_query" => made_queries::plain(alloc, text_of(argument)?),
         "session" => sessions::read(alloc, argument),
         "plain_session" => sessions::plain(alloc, argument),
         "atom" => atoms::read(alloc, argument),
         "atom_to_end" => atoms::read_to_end(alloc, argument),
         "atom_with_end" => atoms::read_with_end(alloc, argument),
-        "made_atom" => made_atoms::written(alloc, text_of(argument)?),
-        "made_core" => made_atoms::written_behind_word(alloc, text_of(argument)?),
-        "added" => made_atoms::added(alloc, text_of(argument)?),
+        "added" => numbers::added(alloc),
         _ => Err(RowFault::NoCall),
     }
-}
-
-/// The argument as text.
-fn text_of(argument: &[u8]) -> Result<&str, RowFault> {
-    str::from_utf8(argument).map_err(|_| RowFault::NoCall)
 }

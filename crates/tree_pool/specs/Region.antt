@@ -1,5 +1,6 @@
 -- Regions: three lists, and the room that is reserved for more of each.
 use Rattle.std.specs.Prelude.{◌≡◌, ℕ, ◌+◌, ◌*◌, ◌≤◌, List, [], ◌∷◌}
+use Rattle.tree_pool.specs.declared.region.TheConstants.{MAX_SPLITS}
 
 -- what was pushed; the trail begins with what was pushed last. A spare says how many more may be pushed
 pub record PlainRegion (N T U : Type 0) : Type 0 where
@@ -21,8 +22,8 @@ pub record WasPopped {N T U : Type 0} (item : U) (old new : PlainRegion N T U) :
   pub spare_trail : new.spare_trail ≡ old.spare_trail + 1
   pub rest : new ≡ record old { trail = new.trail; spare_trail = new.spare_trail }
 
--- the room that is reserved for at most 100,000 splits
+-- the room that is reserved for as many splits as a search may have at most
 pub record IsRoom (nodes terms trail : ℕ) : Type 0 where
-  pub few_nodes : nodes ≤ 2 * 100000 + 1
-  pub few_terms : terms ≤ 8 * (100000 + 1)
-  pub short_trail : trail ≤ 100000
+  pub few_nodes : nodes ≤ 2 * MAX_SPLITS + 1
+  pub few_terms : terms ≤ 8 * (MAX_SPLITS + 1)
+  pub short_trail : trail ≤ MAX_SPLITS

@@ -5,4 +5,4 @@ mod mark;
 mod region;
 
 pub use mark::Mark;
-pub use region::Region;
+pub use region::{MAX_SPLITS, Region};

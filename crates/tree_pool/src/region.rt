@@ -8,6 +8,9 @@ use outside::NoMemory;
 use std::alloc::Global;
 use std::marker::Model;
 
+/// The most splits of a search, and so of a tree that a region is reserved for.
+pub const MAX_SPLITS: u32 = 100_000;
+
 /// Nodes of trees, terms of their leaves, and the trail of a search, each within the room that was reserved at the start.
 /// After `reserve` no call takes memory.
 #[derive(Debug, Drop)]
@@ -39,7 +42,7 @@ impl<N: Copy, T: Copy, U: Copy> Region<N, T, U> {
     /// An empty region with room for a tree of this many inner nodes: for `2 * splits + 1` nodes, for the terms of
     /// `splits + 1` leaves, 8 each, and for `splits` items of the trail. `NoMemory` where there is none for them.
     pub fn reserve(alloc: Global, splits: u32) -> Result<Region<N, T, U>, NoMemory>
-        requires { splits ≤ 100000 }
+        requires { splits ≤ MAX_SPLITS }
         ensures { IfOk result (λ region. region ≡ blank (2 * splits + 1) (8 * (splits + 1)) splits) }
     {
         let splits = splits as usize;

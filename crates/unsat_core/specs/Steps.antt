@@ -15,7 +15,7 @@ pub record PlainRefuted : Type 0 where
   pub tree : PlainTree
 
 -- the tree refutes the key, and the flags say which atoms it names
-pub record IsRefuted (r : PlainRefuted) (flags : List Bool) : Type 0 where
+pub record IsRefutedWithNames (r : PlainRefuted) (flags : List Bool) : Type 0 where
   pub refutes : Refutes r.key r.tree.nodes r.tree.terms
   pub named : AreNamed r.key r.tree flags
 

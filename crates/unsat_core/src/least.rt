@@ -17,7 +17,8 @@ pub(crate) fn least_choice(alloc: Global, refuted: &Refuted<'_>) -> Result<Vec<b
     Ok(choice)
 }
 
-/// Leaves atoms out of the choice until the tree needs each that is left.
+/// Leaves atoms out of the choice until the tree needs each that is left. A last pass, which leaves none out, shows that
+/// it does.
 /// After want of memory the choice is to be dropped.
 fn shrink(alloc: Global, refuted: &Refuted<'_>, choice: &mut [bool]) -> Result<(), NoMemory>
     requires { Suffices refuted.now choice.old }

@@ -24,13 +24,13 @@ pub(crate) struct Refuted<'a> {
 }
 
 impl<'a> Model for Refuted<'a> {
-    ghost use Rattle.unsat_core.specs.Steps.{PlainRefuted, IsRefuted};
+    ghost use Rattle.unsat_core.specs.Steps.{PlainRefuted, IsRefutedWithNames};
 
     ghost Value = { PlainRefuted };
 
     ghost view = { λ r. record { key = r.key.now; tree = record { nodes = r.nodes.now; terms = r.terms.now } } };
 
-    ghost invariant = { λ r. IsRefuted (record {
+    ghost invariant = { λ r. IsRefutedWithNames (record {
       key = r.key.now;
       tree = record { nodes = r.nodes.now; terms = r.terms.now };
     }) r.named.items };

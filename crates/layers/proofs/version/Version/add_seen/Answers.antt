@@ -3,7 +3,7 @@ use Rattle.std.specs.Prelude.{All}
 use Rattle.lin_model.specs.KeyAtom.{PlainKeyAtom}
 use Rattle.cert_check.specs.Decides.{IsChecked, NoneDecides, key_of}
 use Rattle.cert_check.specs.declared.entry.Entry.{Entry}
-use Rattle.layers.specs.Halving.{AreGrown, AreShortFrom}
+use Rattle.layers.specs.Halving.{AreGrown, AreShortFrom, IsLongBefore}
 use Rattle.layers.specs.Layers.{joined}
 use Rattle.layers.specs.Firsts.{flags_of}
 use Rattle.layers.proofs.HalvingLemmas.{added_entries, added_version}
@@ -68,6 +68,8 @@ returns-clause-grown c =
       within = subst (λ (ls : List (List Entry)). kept ≤ length ls) c.deref.ensures.value
           c.kept_layers-kept.ensures.within;
       layers_are = out_is c;
+      long = subst (λ (ls : List (List Entry)). IsLongBefore kept ls) c.deref.ensures.value
+          c.kept_layers-kept.ensures.long;
       short = subst (λ (ls : List (List Entry)). AreShortFrom kept ls) c.deref.ensures.value
           c.kept_layers-kept.ensures.short;
     })
